@@ -1,0 +1,23 @@
+# Builds, shows and checks the proved tick clock. The toolchain's `rt` must be on the PATH.
+.POSIX:
+
+all:
+	rt check
+	rt staticlib tickclock
+
+# Holds the leaves to upstream's own answers and says how many agree.
+cases:
+	rt check cases
+	sh tools/run.sh cases crates/cases/stdin
+
+test:
+	rt fmt --check
+	sh tests/public.sh
+	sh tests/units.sh
+	sh tests/c/check.sh
+	rt ci
+
+clean:
+	rm -rf target
+
+.PHONY: all cases test clean

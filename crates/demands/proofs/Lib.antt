@@ -1,0 +1,6 @@
+pub mod Exactly
+pub mod Demand2
+pub mod Numbers
+pub mod UpstreamTimer
+pub mod UpstreamThread
+pub mod Outcomes

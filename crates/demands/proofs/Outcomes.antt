@@ -1,0 +1,292 @@
+-- One outcome for every public contract: the answer is fixed for all arguments.
+use mathlib.Core.Path.{_≡_, sym, _∙_}
+use Rattle.error.proofs.Refusal.number.Reads as error-Refusal-number
+use Rattle.systick.proofs.elapsed_cycles.Reads as systick-elapsed-cycles
+use Rattle.systick.proofs.ElapsedCycles.number.Reads as systick-ElapsedCycles-number
+use Rattle.systick.proofs.ElapsedCycles.cycles.Reads as systick-ElapsedCycles-cycles
+use Rattle.systick.proofs.cycles_to_ticks.Reads as systick-cycles-to-ticks
+use Rattle.systick.proofs.CyclesToTicks.number.Reads as systick-CyclesToTicks-number
+use Rattle.systick.proofs.CyclesToTicks.ticks.Reads as systick-CyclesToTicks-ticks
+use Rattle.systick.proofs.ticks_to_cycles.Reads as systick-ticks-to-cycles
+use Rattle.systick.proofs.TicksToCycles.number.Reads as systick-TicksToCycles-number
+use Rattle.systick.proofs.TicksToCycles.cycles.Reads as systick-TicksToCycles-cycles
+use Rattle.systick.proofs.max_ticks.Reads as systick-max-ticks
+use Rattle.systick.proofs.MaxTicks.number.Reads as systick-MaxTicks-number
+use Rattle.systick.proofs.MaxTicks.ticks.Reads as systick-MaxTicks-ticks
+use Rattle.systick.proofs.elapsed_decide.Reads as systick-elapsed-decide
+use Rattle.systick.proofs.ElapsedDecide.number.Reads as systick-ElapsedDecide-number
+use Rattle.systick.proofs.ElapsedDecide.wrap_detected.Reads as systick-ElapsedDecide-wrap-detected
+use Rattle.systick.proofs.ElapsedDecide.new_overflow_cyc.Reads as systick-ElapsedDecide-new-overflow-cyc
+use Rattle.systick.proofs.ElapsedDecide.elapsed.Reads as systick-ElapsedDecide-elapsed
+use Rattle.systick.proofs.announce_decide.Reads as systick-announce-decide
+use Rattle.systick.proofs.AnnounceDecide.number.Reads as systick-AnnounceDecide-number
+use Rattle.systick.proofs.AnnounceDecide.dticks.Reads as systick-AnnounceDecide-dticks
+use Rattle.systick.proofs.AnnounceDecide.new_cycle_count.Reads as systick-AnnounceDecide-new-cycle-count
+use Rattle.systick.proofs.AnnounceDecide.new_announced_cycles.Reads as systick-AnnounceDecide-new-announced-cycles
+use Rattle.usage.proofs.ThreadUsage.new_idle.Reads as usage-ThreadUsage-new-idle
+use Rattle.usage.proofs.Changed.number.Reads as usage-Changed-number
+use Rattle.usage.proofs.Changed.usage.Reads as usage-Changed-usage
+use Rattle.usage.proofs.Changed.outcome.Reads as usage-Changed-outcome
+use Rattle.usage.proofs.is_tracked.Reads as usage-is-tracked
+use Rattle.usage.proofs.enabled.Reads as usage-enabled
+use Rattle.usage.proofs.disabled.Reads as usage-disabled
+use Rattle.usage.proofs.accumulated.Reads as usage-accumulated
+use Rattle.usage.proofs.enable_outcome.Reads as usage-enable-outcome
+use Rattle.usage.proofs.disable_outcome.Reads as usage-disable-outcome
+use Rattle.usage.proofs.accumulate_outcome.Reads as usage-accumulate-outcome
+use Rattle.usage.proofs.SysTrackDecision.is_apply.Reads as usage-SysTrackDecision-is-apply
+use Rattle.usage.proofs.sys_enable_decide.Reads as usage-sys-enable-decide
+use Rattle.usage.proofs.sys_disable_decide.Reads as usage-sys-disable-decide
+use Rattle.usage.proofs.StartDecision.is_record_start.Reads as usage-StartDecision-is-record-start
+use Rattle.usage.proofs.start_decide.Reads as usage-start-decide
+use Rattle.usage.proofs.StopDecision.is_accumulate.Reads as usage-StopDecision-is-accumulate
+use Rattle.usage.proofs.stop_decide.Reads as usage-stop-decide
+use Rattle.usage.proofs.average_cycles.Reads as usage-average-cycles
+use Rattle.usage.proofs.elapsed_cycles.Reads as usage-elapsed-cycles
+use Rattle.tickclock.proofs.timer.systick_elapsed_cycles_number.Reads as systick-elapsed-cycles-number
+use Rattle.tickclock.proofs.timer.systick_elapsed_cycles_cycles.Reads as systick-elapsed-cycles-cycles
+use Rattle.tickclock.proofs.timer.systick_cycles_to_ticks_number.Reads as systick-cycles-to-ticks-number
+use Rattle.tickclock.proofs.timer.systick_cycles_to_ticks_ticks.Reads as systick-cycles-to-ticks-ticks
+use Rattle.tickclock.proofs.timer.systick_ticks_to_cycles_number.Reads as systick-ticks-to-cycles-number
+use Rattle.tickclock.proofs.timer.systick_ticks_to_cycles_cycles.Reads as systick-ticks-to-cycles-cycles
+use Rattle.tickclock.proofs.timer.systick_max_ticks_number.Reads as systick-max-ticks-number
+use Rattle.tickclock.proofs.timer.systick_max_ticks_ticks.Reads as systick-max-ticks-ticks
+use Rattle.tickclock.proofs.timer.systick_elapsed_decide_number.Reads as systick-elapsed-decide-number
+use Rattle.tickclock.proofs.timer.systick_elapsed_decide_wrap_detected.Reads as systick-elapsed-decide-wrap-detected
+use Rattle.tickclock.proofs.timer.systick_elapsed_decide_new_overflow_cyc.Reads as systick-elapsed-decide-new-overflow-cyc
+use Rattle.tickclock.proofs.timer.systick_elapsed_decide_elapsed.Reads as systick-elapsed-decide-elapsed
+use Rattle.tickclock.proofs.timer.systick_announce_decide_number.Reads as systick-announce-decide-number
+use Rattle.tickclock.proofs.timer.systick_announce_decide_dticks.Reads as systick-announce-decide-dticks
+use Rattle.tickclock.proofs.timer.systick_announce_decide_new_cycle_count.Reads as systick-announce-decide-new-cycle-count
+use Rattle.tickclock.proofs.timer.systick_announce_decide_new_announced_cycles.Reads as systick-announce-decide-new-announced-cycles
+use Rattle.tickclock.proofs.thread.usage_enable_number.Reads as usage-enable-number
+use Rattle.tickclock.proofs.thread.usage_enable_track_usage.Reads as usage-enable-track-usage
+use Rattle.tickclock.proofs.thread.usage_enable_total_cycles.Reads as usage-enable-total-cycles
+use Rattle.tickclock.proofs.thread.usage_enable_num_windows.Reads as usage-enable-num-windows
+use Rattle.tickclock.proofs.thread.usage_disable_number.Reads as usage-disable-number
+use Rattle.tickclock.proofs.thread.usage_disable_track_usage.Reads as usage-disable-track-usage
+use Rattle.tickclock.proofs.thread.usage_disable_total_cycles.Reads as usage-disable-total-cycles
+use Rattle.tickclock.proofs.thread.usage_disable_num_windows.Reads as usage-disable-num-windows
+use Rattle.tickclock.proofs.thread.usage_accumulate_number.Reads as usage-accumulate-number
+use Rattle.tickclock.proofs.thread.usage_accumulate_track_usage.Reads as usage-accumulate-track-usage
+use Rattle.tickclock.proofs.thread.usage_accumulate_total_cycles.Reads as usage-accumulate-total-cycles
+use Rattle.tickclock.proofs.thread.usage_accumulate_num_windows.Reads as usage-accumulate-num-windows
+use Rattle.tickclock.proofs.thread.usage_average_cycles_number.Reads as usage-average-cycles-number
+use Rattle.tickclock.proofs.thread.usage_average_cycles_cycles.Reads as usage-average-cycles-cycles
+use Rattle.tickclock.proofs.thread.usage_elapsed_cycles_number.Reads as usage-elapsed-cycles-number
+use Rattle.tickclock.proofs.thread.usage_elapsed_cycles_cycles.Reads as usage-elapsed-cycles-cycles
+use Rattle.tickclock.proofs.thread.usage_is_tracked_number.Reads as usage-is-tracked-number
+use Rattle.tickclock.proofs.thread.usage_is_tracked_tracked.Reads as usage-is-tracked-tracked
+use Rattle.tickclock.proofs.thread.usage_new_idle_number.Reads as usage-new-idle-number
+use Rattle.tickclock.proofs.thread.usage_new_idle_track_usage.Reads as usage-new-idle-track-usage
+use Rattle.tickclock.proofs.thread.usage_new_idle_total_cycles.Reads as usage-new-idle-total-cycles
+use Rattle.tickclock.proofs.thread.usage_new_idle_num_windows.Reads as usage-new-idle-num-windows
+use Rattle.tickclock.proofs.thread.usage_sys_enable_decide_number.Reads as usage-sys-enable-decide-number
+use Rattle.tickclock.proofs.thread.usage_sys_enable_decide_apply.Reads as usage-sys-enable-decide-apply
+use Rattle.tickclock.proofs.thread.usage_sys_disable_decide_number.Reads as usage-sys-disable-decide-number
+use Rattle.tickclock.proofs.thread.usage_sys_disable_decide_apply.Reads as usage-sys-disable-decide-apply
+use Rattle.tickclock.proofs.thread.usage_start_decide_number.Reads as usage-start-decide-number
+use Rattle.tickclock.proofs.thread.usage_start_decide_record_start.Reads as usage-start-decide-record-start
+use Rattle.tickclock.proofs.thread.usage_stop_decide_number.Reads as usage-stop-decide-number
+use Rattle.tickclock.proofs.thread.usage_stop_decide_accumulate.Reads as usage-stop-decide-accumulate
+use Rattle.demands.specs.Outcome.{OneOutcome}
+
+-- a contract that says what the answer is, from the arguments, allows that one alone
+once :
+    {Lives Args Answer Exit : Type 0} (answer : Lives → Args → Answer) →
+    (lives : Lives) (args : Args) (one other : Answer) (here there : Exit) →
+    one ≡ answer lives args →
+    other ≡ answer lives args →
+    one ≡ other
+once answer lives args one other here there p q = p ∙ sym q
+
+pub error-outcomes : OneOutcome error-Refusal-number.Post
+error-outcomes = once _
+
+pub systick-outcomes :
+    OneOutcome systick-elapsed-cycles.Post ×
+    OneOutcome systick-ElapsedCycles-number.Post ×
+    OneOutcome systick-ElapsedCycles-cycles.Post ×
+    OneOutcome systick-cycles-to-ticks.Post ×
+    OneOutcome systick-CyclesToTicks-number.Post ×
+    OneOutcome systick-CyclesToTicks-ticks.Post ×
+    OneOutcome systick-ticks-to-cycles.Post ×
+    OneOutcome systick-TicksToCycles-number.Post ×
+    OneOutcome systick-TicksToCycles-cycles.Post ×
+    OneOutcome systick-max-ticks.Post ×
+    OneOutcome systick-MaxTicks-number.Post ×
+    OneOutcome systick-MaxTicks-ticks.Post ×
+    OneOutcome systick-elapsed-decide.Post ×
+    OneOutcome systick-ElapsedDecide-number.Post ×
+    OneOutcome systick-ElapsedDecide-wrap-detected.Post ×
+    OneOutcome systick-ElapsedDecide-new-overflow-cyc.Post ×
+    OneOutcome systick-ElapsedDecide-elapsed.Post ×
+    OneOutcome systick-announce-decide.Post ×
+    OneOutcome systick-AnnounceDecide-number.Post ×
+    OneOutcome systick-AnnounceDecide-dticks.Post ×
+    OneOutcome systick-AnnounceDecide-new-cycle-count.Post ×
+    OneOutcome systick-AnnounceDecide-new-announced-cycles.Post
+systick-outcomes = (
+  once _,
+  once _,
+  once _,
+  once _,
+  once _,
+  once _,
+  once _,
+  once _,
+  once _,
+  once _,
+  once _,
+  once _,
+  once _,
+  once _,
+  once _,
+  once _,
+  once _,
+  once _,
+  once _,
+  once _,
+  once _,
+  once _,
+)
+
+pub usage-outcomes :
+    OneOutcome usage-ThreadUsage-new-idle.Post ×
+    OneOutcome usage-Changed-number.Post ×
+    OneOutcome usage-Changed-usage.Post ×
+    OneOutcome usage-Changed-outcome.Post ×
+    OneOutcome usage-is-tracked.Post ×
+    OneOutcome usage-enabled.Post ×
+    OneOutcome usage-disabled.Post ×
+    OneOutcome usage-accumulated.Post ×
+    OneOutcome usage-enable-outcome.Post ×
+    OneOutcome usage-disable-outcome.Post ×
+    OneOutcome usage-accumulate-outcome.Post ×
+    OneOutcome usage-SysTrackDecision-is-apply.Post ×
+    OneOutcome usage-sys-enable-decide.Post ×
+    OneOutcome usage-sys-disable-decide.Post ×
+    OneOutcome usage-StartDecision-is-record-start.Post ×
+    OneOutcome usage-start-decide.Post ×
+    OneOutcome usage-StopDecision-is-accumulate.Post ×
+    OneOutcome usage-stop-decide.Post ×
+    OneOutcome usage-average-cycles.Post ×
+    OneOutcome usage-elapsed-cycles.Post
+usage-outcomes = (
+  once _,
+  once _,
+  once _,
+  once _,
+  once _,
+  once _,
+  once _,
+  once _,
+  once _,
+  once _,
+  once _,
+  once _,
+  once _,
+  once _,
+  once _,
+  once _,
+  once _,
+  once _,
+  once _,
+  once _,
+)
+
+pub tickclock-outcomes :
+    OneOutcome systick-elapsed-cycles-number.Post ×
+    OneOutcome systick-elapsed-cycles-cycles.Post ×
+    OneOutcome systick-cycles-to-ticks-number.Post ×
+    OneOutcome systick-cycles-to-ticks-ticks.Post ×
+    OneOutcome systick-ticks-to-cycles-number.Post ×
+    OneOutcome systick-ticks-to-cycles-cycles.Post ×
+    OneOutcome systick-max-ticks-number.Post ×
+    OneOutcome systick-max-ticks-ticks.Post ×
+    OneOutcome systick-elapsed-decide-number.Post ×
+    OneOutcome systick-elapsed-decide-wrap-detected.Post ×
+    OneOutcome systick-elapsed-decide-new-overflow-cyc.Post ×
+    OneOutcome systick-elapsed-decide-elapsed.Post ×
+    OneOutcome systick-announce-decide-number.Post ×
+    OneOutcome systick-announce-decide-dticks.Post ×
+    OneOutcome systick-announce-decide-new-cycle-count.Post ×
+    OneOutcome systick-announce-decide-new-announced-cycles.Post ×
+    OneOutcome usage-enable-number.Post ×
+    OneOutcome usage-enable-track-usage.Post ×
+    OneOutcome usage-enable-total-cycles.Post ×
+    OneOutcome usage-enable-num-windows.Post ×
+    OneOutcome usage-disable-number.Post ×
+    OneOutcome usage-disable-track-usage.Post ×
+    OneOutcome usage-disable-total-cycles.Post ×
+    OneOutcome usage-disable-num-windows.Post ×
+    OneOutcome usage-accumulate-number.Post ×
+    OneOutcome usage-accumulate-track-usage.Post ×
+    OneOutcome usage-accumulate-total-cycles.Post ×
+    OneOutcome usage-accumulate-num-windows.Post ×
+    OneOutcome usage-average-cycles-number.Post ×
+    OneOutcome usage-average-cycles-cycles.Post ×
+    OneOutcome usage-elapsed-cycles-number.Post ×
+    OneOutcome usage-elapsed-cycles-cycles.Post ×
+    OneOutcome usage-is-tracked-number.Post ×
+    OneOutcome usage-is-tracked-tracked.Post ×
+    OneOutcome usage-new-idle-number.Post ×
+    OneOutcome usage-new-idle-track-usage.Post ×
+    OneOutcome usage-new-idle-total-cycles.Post ×
+    OneOutcome usage-new-idle-num-windows.Post ×
+    OneOutcome usage-sys-enable-decide-number.Post ×
+    OneOutcome usage-sys-enable-decide-apply.Post ×
+    OneOutcome usage-sys-disable-decide-number.Post ×
+    OneOutcome usage-sys-disable-decide-apply.Post ×
+    OneOutcome usage-start-decide-number.Post ×
+    OneOutcome usage-start-decide-record-start.Post ×
+    OneOutcome usage-stop-decide-number.Post ×
+    OneOutcome usage-stop-decide-accumulate.Post
+tickclock-outcomes = (
+  once _,
+  once _,
+  once _,
+  once _,
+  once _,
+  once _,
+  once _,
+  once _,
+  once _,
+  once _,
+  once _,
+  once _,
+  once _,
+  once _,
+  once _,
+  once _,
+  once _,
+  once _,
+  once _,
+  once _,
+  once _,
+  once _,
+  once _,
+  once _,
+  once _,
+  once _,
+  once _,
+  once _,
+  once _,
+  once _,
+  once _,
+  once _,
+  once _,
+  once _,
+  once _,
+  once _,
+  once _,
+  once _,
+  once _,
+  once _,
+  once _,
+  once _,
+  once _,
+  once _,
+  once _,
+  once _,
+)

@@ -1,0 +1,161 @@
+-- Every clause and lemma of upstream's systick.rs follows from our definitions.
+use Prim.Native.Nat.{ℕ, _+_, _-_, _*_, _/_, _≤_, _<_, zero-le}
+use mathlib.Core.Path.{_≡_, refl, sym, ap, subst, _∙_}
+use mathlib.Core.Bool.{Bool, true, false, cond}
+use mathlib.Core.Logic.{_⊎_, inl, inr, ⊎-elim}
+use native.Mathlib.Nat.{mul-div-cancel, le-div-iff-mul-le, div-lt-iff-lt-mul, div-mul-le-self, div-le-self, lt-div-mul-add, le-trans, eq-zero-or-pos, mul-le-mul-right, zero-mul}
+use native.Mathlib.Omega.{arith}
+use lib.Dec.{leb, eqb}
+use borrow.Author.Tests.{le-leb, lt-leb, leb-true, leb-false, eqb-false}
+use Rattle.error.specs.Numbers.{ok, max32, max64}
+use Rattle.error.specs.Said.{Said}
+use Rattle.units.specs.declared.Cycles.{Cycles}
+use Rattle.units.specs.declared.Ticks.{Ticks}
+use Rattle.systick.specs.Leaves.{elapsedCycles, difference, cyclesToTicks, ticksToCycles, maxTicks, maxLoad, mostTicks, elapsedDecide, wrapOf, overflowAfter, announceDecide, announceValue}
+use Rattle.systick.specs.Says.{elapsedCyclesSays, cyclesToTicksSays, ticksToCyclesSays, maxTicksSays, elapsedDecideSays, announceDecideSays}
+use Rattle.systick.specs.declared.ElapsedCycles.the-variants as E
+use Rattle.systick.specs.declared.CyclesToTicks.the-variants as T
+use Rattle.systick.specs.declared.TicksToCycles.the-variants as C
+use Rattle.systick.specs.declared.MaxTicks.the-variants as M
+use Rattle.systick.proofs.Outcomes as timer
+use Rattle.systick.proofs.Bounds.{product-within, product-over}
+use Rattle.demands.specs.UpstreamTimer.{ElapsedCyclesEnsures, CyclesToTicksEnsures, TicksToCyclesEnsures, MaxTicksEnsures, ElapsedDecideEnsures, AnnounceDecideEnsures, TimerClauses, TimerLemmas}
+use Rattle.demands.proofs.Demand2 as demand2
+
+-- a difference does not pass the load
+difference-within : (last current load : ℕ) → last ≤ load → current ≤ load → difference last current load ≤ load
+difference-within last current load a b = by-test (leb current last) refl
+  where
+    by-test : (t : Bool) → leb current last ≡ t → cond t (last - current) (last + load - current) ≤ load
+    by-test true e = omega arith
+    by-test false e = omega (arith, leb-false current last e)
+
+-- an accepted difference is the formula's, and both values were within the load
+accepted-difference : (last current load elapsed : ℕ) → elapsedCycles last current load ≡ E.Accepted elapsed → (last ≤ load) × (current ≤ load) × (elapsed ≡ difference last current load)
+unfolding elapsedCyclesSays
+accepted-difference last current load elapsed e =
+    let exact = demand2.elapsed-cycles-exact last current load in
+    let fits = exact .accepted .0 (ap (λ a. elapsedCyclesSays a .number) e) in
+    (fits .0, fits .1, sym (ap (λ a. elapsedCyclesSays a .value) e) ∙ exact .gives fits)
+
+-- an accepted quotient is the formula's, of a tick above 0
+accepted-ticks : (cycles : Cycles) (tick : ℕ) (ticks : Ticks) → cyclesToTicks cycles tick ≡ T.Accepted ticks → (0 < tick) × (ticks .0 ≡ cycles .0 / tick)
+unfolding cyclesToTicksSays
+accepted-ticks cycles tick ticks e =
+    let exact = demand2.cycles-to-ticks-exact cycles tick in
+    let above = exact .accepted .0 (ap (λ a. cyclesToTicksSays a .number) e) in
+    (above, ap (λ (t : Ticks). t .0) (sym (ap (λ a. cyclesToTicksSays a .value) e) ∙ exact .gives above))
+
+accepted-cycles : (ticks : Ticks) (tick : ℕ) (cycles : Cycles) → ticksToCycles ticks tick ≡ C.Accepted cycles → (ticks .0 * tick ≤ max64) × (cycles .0 ≡ ticks .0 * tick)
+unfolding ticksToCyclesSays
+accepted-cycles ticks tick cycles e =
+    let exact = demand2.ticks-to-cycles-exact ticks tick in
+    let fits = exact .accepted .0 (ap (λ a. ticksToCyclesSays a .number) e) in
+    (fits, ap (λ (c : Cycles). c .0) (sym (ap (λ a. ticksToCyclesSays a .value) e) ∙ exact .gives fits))
+
+accepted-most : (tick : ℕ) (ticks : Ticks) → maxTicks tick ≡ M.Accepted ticks → ticks .0 ≡ mostTicks tick
+unfolding maxTicksSays
+accepted-most tick ticks e =
+    let exact = demand2.max-ticks-exact tick in
+    let above = exact .accepted .0 (ap (λ a. maxTicksSays a .number) e) in
+    ap (λ (t : Ticks). t .0) (sym (ap (λ a. maxTicksSays a .value) e) ∙ exact .gives above)
+
+most-fits : (tick : ℕ) → mostTicks tick * tick ≤ maxLoad
+most-fits tick = by-test (eqb (maxLoad / tick) 0)
+  where
+    by-test : (none : Bool) → cond none 0 (maxLoad / tick - 1) * tick ≤ maxLoad
+    by-test true = rw zero-mul zero-le
+    by-test false =
+        let fewer : maxLoad / tick - 1 ≤ maxLoad / tick = omega arith in
+        le-trans (mul-le-mul-right tick fewer) (div-mul-le-self maxLoad tick)
+
+quotients-keep-order : (a b k : ℕ) → 0 < k → a ≤ b → a / k ≤ b / k
+quotients-keep-order a b k p h = (le-div-iff-mul-le p) .1 (le-trans (div-mul-le-self a k) h)
+
+elapsed-clauses : (last current load : ℕ) → last ≤ load → current ≤ load → ElapsedCyclesEnsures last current load (elapsedCyclesSays (elapsedCycles last current load))
+elapsed-clauses last current load a b =
+    let exact = demand2.elapsed-cycles-exact last current load in
+    let is = exact .gives (a, b) in
+    record {
+      accepted = exact .accepted .1 (a, b);
+      counted-down = λ h. is ∙ simp (le-leb _ _ h);
+      wrapped = λ h. is ∙ simp (lt-leb _ _ h) (omega arith);
+      bounded = rw is (difference-within last current load a b);
+    }
+
+decide-clauses : (val1 val2 : ℕ) (flag : Bool) (load overflow : ℕ) → val2 ≤ load → overflow + load ≤ max32 → load - val2 + overflow + load ≤ max32 → ElapsedDecideEnsures val1 val2 flag load overflow (elapsedDecideSays (elapsedDecide val1 val2 flag load overflow))
+decide-clauses val1 val2 flag load overflow a b h =
+    let exact = demand2.elapsed-decide-exact val1 val2 flag load overflow in
+    let is = exact .gives (a, h) in
+    record {
+      accepted = exact .accepted .1 (a, h);
+      wrap = ap (λ d. d .«wrap_detected») is;
+      kept = λ w. ap (λ d. d .«new_overflow_cyc») is ∙ ap (λ t. overflowAfter t load overflow) (sym (ap (λ d. d .«wrap_detected») is) ∙ w);
+      added = λ w. ap (λ d. d .«new_overflow_cyc») is ∙ ap (λ t. overflowAfter t load overflow) (sym (ap (λ d. d .«wrap_detected») is) ∙ w);
+    }
+
+announce-clauses : (count announced : Cycles) (overflow tick : ℕ) → 0 < tick → count .0 + overflow ≤ max64 → announced .0 ≤ count .0 + overflow → AnnounceDecideEnsures count announced overflow tick (announceDecideSays (announceDecide count announced overflow tick))
+announce-clauses count announced overflow tick p a b =
+    let exact = demand2.announce-decide-exact count announced overflow tick in
+    record {
+      counted = λ n. ap (λ d. d .«new_cycle_count» .0) (exact .gives (exact .accepted .0 n));
+      ticks = λ n. rw (exact .gives (exact .accepted .0 n)) refl;
+    }
+
+product-clauses : (ticks : Ticks) (tick : ℕ) → TicksToCyclesEnsures ticks tick (ticksToCyclesSays (ticksToCycles ticks tick))
+unfolding ticksToCyclesSays
+product-clauses ticks tick =
+    let exact = demand2.ticks-to-cycles-exact ticks tick in
+    record {
+      no-tick = λ e. let is = ap ticksToCyclesSays (timer.cycles-of-nothing ticks tick e) in (ap (λ said. said .number) is, ap (λ said. said .value .0) is);
+      none = λ p h. exact .overflow .1 (product-over max64 (ticks .0) tick p h);
+      some = λ p h. let fits = product-within max64 (ticks .0) tick p h in (exact .accepted .1 fits, ap (λ (c : Cycles). c .0) (exact .gives fits));
+    }
+
+-- there and back, over the value that the answer says
+back-again : (ticks : Ticks) (tick : ℕ) → 0 < tick → ticks .0 ≤ max64 / tick → cyclesToTicks (ticksToCyclesSays (ticksToCycles ticks tick) .value) tick ≡ T.Accepted ticks
+unfolding ticksToCyclesSays
+back-again ticks tick p h =
+    let given = timer.cycles-given ticks tick (product-within max64 (ticks .0) tick p h) in
+    demand2.round-trip ticks tick (ticksToCyclesSays (ticksToCycles ticks tick) .value) p
+    (given ∙ ap C.Accepted (sym (ap (λ a. ticksToCyclesSays a .value) given)))
+
+truncation : (cycles : Cycles) (tick : ℕ) (ticks : Ticks) → cycles .0 ≤ max64 → cyclesToTicks cycles tick ≡ T.Accepted ticks → (ticksToCycles ticks tick ≡ C.Accepted (record { 0 = ticks .0 * tick })) × (ticks .0 * tick ≤ cycles .0) × (cycles .0 < ticks .0 * tick + tick)
+truncation cycles tick ticks h e =
+    let facts = accepted-ticks cycles tick ticks e in
+    let below : ticks .0 * tick ≤ cycles .0 = rw (facts .1) (div-mul-le-self (cycles .0) tick) in
+    let above : cycles .0 < ticks .0 * tick + tick = rw (facts .1) (lt-div-mul-add (facts .0)) in
+    (timer.cycles-given ticks tick (le-trans below h), below, above)
+
+pub timer-clauses : TimerClauses
+timer-clauses = record {
+  elapsed-cycles = elapsed-clauses;
+  cycles-to-ticks = λ cycles tick. let exact = demand2.cycles-to-ticks-exact cycles tick in record {
+    none = exact .invalid .1;
+    some = λ p. (exact .accepted .1 p, ap (λ (t : Ticks). t .0) (exact .gives p));
+  };
+  ticks-to-cycles = product-clauses;
+  max-ticks = λ tick. let exact = demand2.max-ticks-exact tick in record {
+    none = exact .invalid .1;
+    some = exact .accepted .1;
+  };
+  elapsed-decide = decide-clauses;
+  announce-decide = announce-clauses;
+}
+
+pub timer-lemmas : TimerLemmas
+timer-lemmas = record {
+  lemma-elapsed-bounded = λ last current load elapsed e. let facts = accepted-difference last current load elapsed e in rw (facts .2) (difference-within last current load (facts .0) (facts .1));
+  lemma-roundtrip = back-again;
+  lemma-monotonicity = λ c1 c2 tick t1 t2 h e1 e2.
+      let one = accepted-ticks c1 tick t1 e1 in
+      let two = accepted-ticks c2 tick t2 e2 in
+      rw (one .1, two .1) (quotients-keep-order (c1 .0) (c2 .0) tick (one .0) h);
+  lemma-counter-bounded = λ last current load elapsed h e. let facts = accepted-difference last current load elapsed e in rw (facts .2) (le-trans (difference-within last current load (facts .0) (facts .1)) h);
+  max-ticks-fit = λ tick ticks e. rw (accepted-most tick ticks e) (most-fits tick);
+  lemma-wrap-symmetry = λ last current load h b. timer.wrapped last current load b h ∙ ap E.Accepted (omega arith);
+  lemma-zero-elapsed = λ count load h. timer.counted-down count count load h (omega arith) ∙ ap E.Accepted (omega arith);
+  lemma-conversion-truncation = truncation;
+  ticks-within = λ cycles tick ticks e. rw (accepted-ticks cycles tick ticks e .1) (div-le-self (cycles .0) tick);
+  cycles-fit = λ ticks tick cycles e. let facts = accepted-cycles ticks tick cycles e in rw (facts .1) (facts .0);
+}

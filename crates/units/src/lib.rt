@@ -1,0 +1,7 @@
+// Cycles and ticks: two kinds of number that can't be mixed. The conversions in systick are the only way across.
+
+// Cycles of the timer's clock: a time, a count or a total.
+pub struct Cycles(pub u64);
+
+// Ticks of the kernel: a number of them, never a time in cycles.
+pub struct Ticks(pub u64);

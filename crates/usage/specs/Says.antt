@@ -1,0 +1,40 @@
+-- What each answer of a thread record's leaf says: 01's number and values for each of its cases.
+use mathlib.Core.Bool.{Bool, true, false}
+use Rattle.error.specs.Said.{Said, accepted, refused}
+use Rattle.usage.specs.declared.ThreadUsage.{ThreadUsage}
+use Rattle.usage.specs.declared.Changed.{Changed}
+use Rattle.usage.specs.declared.Changed.the-variants as C
+use Rattle.usage.specs.declared.Outcome.{Outcome}
+use Rattle.usage.specs.declared.SysTrackDecision.{SysTrackDecision}
+use Rattle.usage.specs.declared.SysTrackDecision.the-variants.{NoOp, Apply}
+use Rattle.usage.specs.declared.StartDecision.{StartDecision}
+use Rattle.usage.specs.declared.StartDecision.the-variants.{RecordStart, RecordOnly}
+use Rattle.usage.specs.declared.StopDecision.{StopDecision}
+use Rattle.usage.specs.declared.StopDecision.the-variants.{Accumulate, Skip}
+use Rattle.usage.specs.Record.{newIdle}
+
+unfoldable pub changedSays : Changed → Said ThreadUsage
+changedSays (C.Accepted u) = accepted u
+changedSays (C.Refused why) = refused why newIdle
+
+-- the record afterwards: the new one, or the old one where the change was refused
+unfoldable pub kept : ThreadUsage → Changed → ThreadUsage
+kept before (C.Accepted u) = u
+kept before (C.Refused why) = before
+
+-- code and record together
+unfoldable pub outcomeOf : ThreadUsage → Changed → Outcome
+outcomeOf before answer = record { code = changedSays answer .number; usage = kept before answer }
+
+-- a decision as yes or no
+unfoldable pub applies : SysTrackDecision → Bool
+applies NoOp = false
+applies Apply = true
+
+unfoldable pub recordsStart : StartDecision → Bool
+recordsStart RecordStart = true
+recordsStart RecordOnly = false
+
+unfoldable pub accumulates : StopDecision → Bool
+accumulates Accumulate = true
+accumulates Skip = false

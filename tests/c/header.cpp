@@ -1,0 +1,33 @@
+// Shows that the header compiles as C++ and that its functions link by their C
+// names. It is included twice, since its guard must hold.
+#include "tickclock.h"
+#include "tickclock.h"
+
+// The pointers' types are written out, so that a changed prototype doesn't
+// compile, and they are visible outside, so that the linker must find each
+// function. Between them they have every kind of argument and result.
+extern "C" {
+
+int32_t (*difference_number)(uint32_t, uint32_t, uint32_t) =
+    systick_elapsed_cycles_number;
+
+uint64_t (*cycles_of_ticks)(uint64_t, uint32_t) =
+    systick_ticks_to_cycles_cycles;
+
+uint32_t (*wrap_of_sample)(uint32_t, uint32_t, uint32_t, uint32_t, uint32_t) =
+    systick_elapsed_decide_wrap_detected;
+
+uint64_t (*announced_after)(uint64_t, uint64_t, uint32_t, uint32_t) =
+    systick_announce_decide_new_announced_cycles;
+
+uint64_t (*total_after)(uint32_t, uint64_t, uint32_t, uint32_t) =
+    usage_accumulate_total_cycles;
+
+uint32_t (*windows_of_idle)(void) = usage_new_idle_num_windows;
+
+}
+
+int main()
+{
+    return 0;
+}

@@ -1,0 +1,38 @@
+#!/bin/sh
+# Every public function has an ensures, demands nothing of its caller, and stands in the list of outcomes.
+set -eu
+cd "$(dirname "$0")/.."
+listed=crates/demands/proofs/Outcomes.antt
+bad=0 count=0
+for lib in crates/*/src/lib.rt; do
+    src=$(dirname "$lib")
+    crate=$(basename "$(dirname "$src")")
+    for file in "$src"/*.rt; do
+        module=$(basename "$file" .rt)
+        # what a private module has is not public
+        if [ "$module" != lib ] && ! grep -q "^pub mod $module;" "$lib"; then continue; fi
+        functions=$(awk -v module="$module" '
+            /^impl / { type = $2 "."; next }
+            /^}/ { type = "" }
+            /^ *pub (extern "C" )?fn / {
+                name = $0; sub(/.*fn /, "", name); sub(/[^A-Za-z0-9_].*/, "", name)
+                prefix = module == "lib" ? "" : module "."
+                asked = 0; promised = 0; open = 1
+            }
+            open && /requires/ { asked = 1 }
+            open && /ensures/ { promised = 1 }
+            open && /\{ *$/ { print prefix type name, asked, promised; open = 0 }
+        ' "$file")
+        [ -n "$functions" ] || continue
+        while read -r name asked promised; do
+            count=$((count + 1))
+            [ "$asked" = 0 ] || { echo "$file: $name demands something of its caller"; bad=1; }
+            [ "$promised" = 1 ] || { echo "$file: $name has no ensures"; bad=1; }
+            grep -q "^use Rattle\.$crate\.proofs\.$name\.Reads as " "$listed" || { echo "$listed lacks $crate $name"; bad=1; }
+        done <<END
+$functions
+END
+    done
+done
+[ "$bad" = 0 ] || exit 1
+echo "public: $count functions, each with a contract that demands nothing and one outcome"

@@ -1,6 +1,7 @@
 /*
  * tickclock.h: the arithmetic of a tick clock over a timer that counts down,
- * and of a thread's usage record, for C firmware (libtickclock.a).
+ * and of a thread's usage record, for C firmware (libtickclock.a; x86-64 so
+ * far, for tests on a host).
  *
  * Every function is pure: the answer depends on the arguments alone. There is
  * no state, no allocation and no lock, so each is safe from interrupt context
@@ -159,7 +160,16 @@ uint32_t systick_max_ticks_ticks(uint32_t cycles_per_tick);
  * load          the period, in cycles
  * overflow_cyc  cycles of the wraps counted since that update
  *
- * The time of the sample is the cycle count plus elapsed. Where accepted, store
+ * The time of the sample is the cycle count plus elapsed. It is the true time
+ * where these hold, and else may be short of it by whole periods:
+ *   - fewer than load cycles pass from the reading of val1 to that of val2;
+ *   - at most one wrap comes between the val2 of one sample and the next, so
+ *     sample at least once a period;
+ *   - on a wrap, none comes between val2 and the read that clears COUNTFLAG.
+ * A raw 0 is not refused, but puts the time a period ahead: read it as load
+ * first, for val1 and val2 (counter_value, below).
+ *
+ * Where accepted, store
  * new_overflow_cyc as overflow_cyc; on a wrap, then read COUNTFLAG once more
  * only to clear it, or the next sample may count the same wrap again.
  *
@@ -189,6 +199,23 @@ uint32_t systick_elapsed_decide_elapsed(uint32_t val1, uint32_t val2,
                                         uint32_t overflow_cyc);
 
 /*
+ * counter_value: the counter value of what the value register holds. The
+ * register shows 0 in the one cycle in which the value is the period.
+ *
+ *   value = load if raw is 0, else raw
+ *
+ * raw   the value register
+ * load  the period, in cycles
+ *
+ * Refused:
+ *   TICKCLOCK_EINVAL  load is below 2 or above TICKCLOCK_SYSTICK_MAX_LOAD
+ *   TICKCLOCK_EINVAL  raw is not below load
+ * Where refused, value is 0.
+ */
+int32_t counter_value_number(uint32_t raw, uint32_t load);
+uint32_t counter_value_value(uint32_t raw, uint32_t load);
+
+/*
  * systick_announce_decide: the whole ticks that have come since the last
  * announcement, and the counts after this one.
  *
@@ -198,7 +225,7 @@ uint32_t systick_elapsed_decide_elapsed(uint32_t val1, uint32_t val2,
  *   new_announced_cycles = announced_cycles + dticks * cycles_per_tick
  *
  * cycle_count       cycles counted at the last update
- * announced_cycles  cycles announced so far, as ticks
+ * announced_cycles  the cycles of all ticks announced so far
  * overflow_cyc      cycles of the wraps counted since that update
  * cycles_per_tick   cycles of one tick
  *

@@ -28,7 +28,8 @@ for lib in crates/*/src/lib.rt; do
             count=$((count + 1))
             [ "$asked" = 0 ] || { echo "$file: $name demands something of its caller"; bad=1; }
             [ "$promised" = 1 ] || { echo "$file: $name has no ensures"; bad=1; }
-            grep -q "^use Rattle\.$crate\.proofs\.$name\.Reads as " "$listed" || { echo "$listed lacks $crate $name"; bad=1; }
+            as=$(sed -n "s/^use Rattle\.$crate\.proofs\.$name\.Reads as //p" "$listed")
+            grep -q "OneOutcome $as\.Post" "$listed" && [ -n "$as" ] || { echo "$listed lacks $crate $name"; bad=1; }
         done <<END
 $functions
 END

@@ -1,12 +1,11 @@
 #!/bin/sh
-# run.sh PROGRAM [ARGUMENT..]: runs a proved program of target/bin, under the kit's emulator where this is no x86-64.
+# run.sh PROGRAM [ARGUMENT..]: runs a program of target/bin, or an x86-64 one by its path, under the kit's emulator where this is no x86-64.
 set -eu
-root=$(cd "$(dirname "$0")/.." && pwd)
-program=$root/target/bin/$1
+here=$(cd "$(dirname "$0")" && pwd)
+case $1 in */*) program=$1 ;; *) program=$here/../target/bin/$1 ;; esac
 shift
 if [ "$(uname -m)" = x86_64 ]; then
     exec "$program" "$@"
 fi
-kit=$(dirname "$(dirname "$(readlink -f "$(command -v rt)")")")
-tools=$kit/on/$(uname -m)/toolchain
+tools=$(sh "$here/kit.sh")
 exec "$tools/bin/qemu-x86_64" "$tools/lib/ld-linux-x86-64.so.2" --library-path "$tools/lib" "$program" "$@"

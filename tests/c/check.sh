@@ -1,5 +1,5 @@
 #!/bin/sh
-# Links the C checks against the proved archive, runs them, and holds the header to what the archive exports.
+# Links the C checks against the proved archive, runs them, and holds the header to what the source exports.
 set -eu
 cd "$(dirname "$0")/../.."
 root=$(pwd)
@@ -25,13 +25,11 @@ grep -oh '\b\(systick\|usage\|counter\)_[a-z_0-9]*(' include/tickclock.h | tr -d
 grep -h -A1 '^#\[no_mangle\]' crates/tickclock/src/*.rt | grep -o 'fn [a-z_0-9]*' | sed 's/fn //' | sort -u > "$room/exported"
 diff "$room/declared" "$room/exported" || { echo "c: the header and the exports differ"; exit 1; }
 
-# The archive is x86-64 code. Elsewhere the kit's own compiler, C library and emulator stand in for the machine's.
+# The archive is x86-64 code. Elsewhere the kit's own compiler and C library stand in for the machine's.
 if [ "$(uname -m)" = x86_64 ]; then
     gcc -std=c99 $strict -Iinclude tests/c/leaves.c "$archive" -o "$room/leaves"
-    "$room/leaves"
 else
-    kit=$(dirname "$(dirname "$(readlink -f "$(command -v rt)")")")
-    tools=$kit/on/$(uname -m)/toolchain
+    tools=$(sh tools/kit.sh)
     lib=$tools/lib
     "$tools/bin/clang" --target=x86_64-linux-gnu -std=c99 $strict -O1 -fPIC -Iinclude \
         -isystem "$(gcc -print-file-name=include)" -isystem "/usr/include/$(gcc -print-multiarch)" -isystem /usr/include \
@@ -39,5 +37,5 @@ else
     "$tools/bin/ld.lld" -pie --dynamic-linker /lib64/ld-linux-x86-64.so.2 -o "$room/leaves" \
         "$lib/Scrt1.o" "$lib/crti.o" "$lib/crtbeginS.o" "$room/leaves.o" "$archive" \
         "$lib/libc.so.6" "$lib/libc_nonshared.a" "$lib/libgcc.a" "$lib/crtendS.o" "$lib/crtn.o"
-    "$tools/bin/qemu-x86_64" "$lib/ld-linux-x86-64.so.2" --library-path "$lib" "$room/leaves"
 fi
+sh tools/run.sh "$room/leaves"

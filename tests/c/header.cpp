@@ -1,11 +1,10 @@
-// Shows that the header compiles as C++ and that its functions link by their C
-// names. It is included twice, since its guard must hold.
+// Shows that the header compiles as C++. It is included twice, since its guard
+// must hold.
 #include "tickclock.h"
 #include "tickclock.h"
 
 // The pointers' types are written out, so that a changed prototype doesn't
-// compile, and they are visible outside, so that the linker must find each
-// function. Between them they have every kind of argument and result.
+// compile. Between them they have every kind of argument and result.
 extern "C" {
 
 int32_t (*difference_number)(uint32_t, uint32_t, uint32_t) =

@@ -1,6 +1,6 @@
 /*
- * Checks the exported leaves through the C interface: the paper's numbers to
- * check, every refusal with its number and zeroed fields, the values on both
+ * Checks the exported leaves through the C interface: document 01's numbers
+ * to check, every refusal with its number and zeroed fields, the values on both
  * sides of each boundary, and flags other than 0 and 1.
  *
  * Prints each failed check, then a count; exits 1 if any check failed.
@@ -87,6 +87,12 @@ static void check_number(const char *file, int line, const char *text,
         CHECK(systick_announce_decide_new_announced_cycles args, announced); \
     } while (0)
 
+#define COUNTER_VALUE(args, number, value) \
+    do { \
+        CHECK_NUMBER(counter_value_number args, number); \
+        CHECK(counter_value_value args, value); \
+    } while (0)
+
 #define USAGE_ENABLE(args, number, track, total, windows) \
     do { \
         CHECK_NUMBER(usage_enable_number args, number); \
@@ -153,7 +159,7 @@ static void check_number(const char *file, int line, const char *text,
         CHECK(usage_stop_decide_accumulate args, accumulate); \
     } while (0)
 
-/* Short names for the rows; constants() holds them to the paper's values. */
+/* Short names for the rows; constants() holds them to document 01's values. */
 #define OK TICKCLOCK_OK
 #define INVALID TICKCLOCK_EINVAL
 #define TOO_BIG TICKCLOCK_EOVERFLOW
@@ -174,7 +180,7 @@ static void constants(void)
     CHECK(TICKCLOCK_SYSTICK_MAX_LOAD, 16777215);
 }
 
-/* The paper's table, by its own numbering. */
+/* Document 01's table, by its own numbering. */
 static void numbers_to_check(void)
 {
     /* 1 */
@@ -344,6 +350,25 @@ static void systick_elapsed_decide(void)
     SYSTICK_ELAPSED_DECIDE((9, 9, 256, 10, 0), OK, 1, 10, 11);
     SYSTICK_ELAPSED_DECIDE((9, 9, 0x80000000u, 10, 0), OK, 1, 10, 11);
     SYSTICK_ELAPSED_DECIDE((9, 9, MAX32, 10, 0), OK, 1, 10, 11);
+}
+
+static void counter_value(void)
+{
+    COUNTER_VALUE((0, 10), OK, 10);
+    COUNTER_VALUE((1, 10), OK, 1);
+    COUNTER_VALUE((9, 10), OK, 9);
+    COUNTER_VALUE((10, 10), INVALID, 0);
+    COUNTER_VALUE((11, 10), INVALID, 0);
+    COUNTER_VALUE((0, 2), OK, 2);
+    COUNTER_VALUE((1, 2), OK, 1);
+    COUNTER_VALUE((0, 1), INVALID, 0);
+    COUNTER_VALUE((0, 0), INVALID, 0);
+    COUNTER_VALUE((0, 16777215), OK, 16777215);
+    COUNTER_VALUE((16777214, 16777215), OK, 16777214);
+    COUNTER_VALUE((16777215, 16777215), INVALID, 0);
+    COUNTER_VALUE((0, 16777216), INVALID, 0);
+    COUNTER_VALUE((0, MAX32), INVALID, 0);
+    COUNTER_VALUE((MAX32, 16777215), INVALID, 0);
 }
 
 static void systick_announce_decide(void)
@@ -527,6 +552,7 @@ int main(void)
     systick_ticks_to_cycles();
     systick_max_ticks();
     systick_elapsed_decide();
+    counter_value();
     systick_announce_decide();
     usage_enable();
     usage_disable();

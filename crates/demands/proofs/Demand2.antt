@@ -19,7 +19,7 @@ use Rattle.systick.specs.declared.TicksToCycles.the-variants as C
 use Rattle.systick.proofs.Outcomes as timer
 use Rattle.usage.specs.Says.{changedSays}
 use Rattle.usage.proofs.Outcomes as thread
-use Rattle.demands.specs.Demand2.{ElapsedCyclesExact, CyclesToTicksExact, TicksToCyclesExact, MaxTicksExact, ElapsedDecideExact, AnnounceDecideExact, EnableExact, AccumulateExact, RoundTrip}
+use Rattle.demands.specs.Demand2.{ElapsedCyclesExact, CyclesToTicksExact, TicksToCyclesExact, MaxTicksExact, ElapsedDecideExact, AnnounceDecideExact, EnableExact, DisableExact, AccumulateExact, RoundTrip}
 use Rattle.demands.proofs.Exactly.{either, exactly}
 
 pub elapsed-cycles-exact : ElapsedCyclesExact
@@ -132,6 +132,10 @@ accumulate-exact u cycles =
     (λ h. ap changedSays (thread.sum-kept u cycles h))
     (λ never. absurd never)
     (λ h. ap changedSays (thread.sum-above u cycles h))
+
+pub disable-exact : DisableExact
+unfolding changedSays
+disable-exact u = refl
 
 pub round-trip : RoundTrip
 round-trip ticks tick cycles p e = by-case (either (ticks .0 * tick) max64)

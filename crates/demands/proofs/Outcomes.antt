@@ -18,11 +18,13 @@ use Rattle.systick.proofs.ElapsedDecide.number.Reads as systick-ElapsedDecide-n
 use Rattle.systick.proofs.ElapsedDecide.wrap_detected.Reads as systick-ElapsedDecide-wrap-detected
 use Rattle.systick.proofs.ElapsedDecide.new_overflow_cyc.Reads as systick-ElapsedDecide-new-overflow-cyc
 use Rattle.systick.proofs.ElapsedDecide.elapsed.Reads as systick-ElapsedDecide-elapsed
+use Rattle.systick.proofs.ElapsedDecide.refusal.Reads as systick-ElapsedDecide-refusal
 use Rattle.systick.proofs.announce_decide.Reads as systick-announce-decide
 use Rattle.systick.proofs.AnnounceDecide.number.Reads as systick-AnnounceDecide-number
 use Rattle.systick.proofs.AnnounceDecide.dticks.Reads as systick-AnnounceDecide-dticks
 use Rattle.systick.proofs.AnnounceDecide.new_cycle_count.Reads as systick-AnnounceDecide-new-cycle-count
 use Rattle.systick.proofs.AnnounceDecide.new_announced_cycles.Reads as systick-AnnounceDecide-new-announced-cycles
+use Rattle.systick.proofs.AnnounceDecide.refusal.Reads as systick-AnnounceDecide-refusal
 use Rattle.usage.proofs.ThreadUsage.new_idle.Reads as usage-ThreadUsage-new-idle
 use Rattle.usage.proofs.Changed.number.Reads as usage-Changed-number
 use Rattle.usage.proofs.Changed.usage.Reads as usage-Changed-usage
@@ -43,22 +45,31 @@ use Rattle.usage.proofs.StopDecision.is_accumulate.Reads as usage-StopDecision-
 use Rattle.usage.proofs.stop_decide.Reads as usage-stop-decide
 use Rattle.usage.proofs.average_cycles.Reads as usage-average-cycles
 use Rattle.usage.proofs.elapsed_cycles.Reads as usage-elapsed-cycles
-use Rattle.tickclock.proofs.timer.systick_elapsed_cycles_number.Reads as systick-elapsed-cycles-number
-use Rattle.tickclock.proofs.timer.systick_elapsed_cycles_cycles.Reads as systick-elapsed-cycles-cycles
-use Rattle.tickclock.proofs.timer.systick_cycles_to_ticks_number.Reads as systick-cycles-to-ticks-number
-use Rattle.tickclock.proofs.timer.systick_cycles_to_ticks_ticks.Reads as systick-cycles-to-ticks-ticks
-use Rattle.tickclock.proofs.timer.systick_ticks_to_cycles_number.Reads as systick-ticks-to-cycles-number
-use Rattle.tickclock.proofs.timer.systick_ticks_to_cycles_cycles.Reads as systick-ticks-to-cycles-cycles
-use Rattle.tickclock.proofs.timer.systick_max_ticks_number.Reads as systick-max-ticks-number
-use Rattle.tickclock.proofs.timer.systick_max_ticks_ticks.Reads as systick-max-ticks-ticks
-use Rattle.tickclock.proofs.timer.systick_elapsed_decide_number.Reads as systick-elapsed-decide-number
-use Rattle.tickclock.proofs.timer.systick_elapsed_decide_wrap_detected.Reads as systick-elapsed-decide-wrap-detected
-use Rattle.tickclock.proofs.timer.systick_elapsed_decide_new_overflow_cyc.Reads as systick-elapsed-decide-new-overflow-cyc
-use Rattle.tickclock.proofs.timer.systick_elapsed_decide_elapsed.Reads as systick-elapsed-decide-elapsed
-use Rattle.tickclock.proofs.timer.systick_announce_decide_number.Reads as systick-announce-decide-number
-use Rattle.tickclock.proofs.timer.systick_announce_decide_dticks.Reads as systick-announce-decide-dticks
-use Rattle.tickclock.proofs.timer.systick_announce_decide_new_cycle_count.Reads as systick-announce-decide-new-cycle-count
-use Rattle.tickclock.proofs.timer.systick_announce_decide_new_announced_cycles.Reads as systick-announce-decide-new-announced-cycles
+use Rattle.counter.proofs.good_period.Reads as counter-good-period
+use Rattle.counter.proofs.started.Reads as counter-started
+use Rattle.counter.proofs.Counter.in_range.Reads as counter-Counter-in-range
+use Rattle.counter.proofs.Counter.cleared.Reads as counter-Counter-cleared
+use Rattle.counter.proofs.run.Reads as counter-run
+use Rattle.counter.proofs.Ran.number.Reads as counter-Ran-number
+use Rattle.counter.proofs.Ran.counter.Reads as counter-Ran-counter
+use Rattle.counter.proofs.Ran.refusal.Reads as counter-Ran-refusal
+use Rattle.counter.proofs.value_of.Reads as counter-value-of
+use Rattle.counter.proofs.ValueRead.number.Reads as counter-ValueRead-number
+use Rattle.counter.proofs.ValueRead.value.Reads as counter-ValueRead-value
+use Rattle.clock.proofs.set_up.Reads as clock-set-up
+use Rattle.clock.proofs.well_formed.Reads as clock-well-formed
+use Rattle.clock.proofs.sample.Reads as clock-sample
+use Rattle.clock.proofs.announce.Reads as clock-announce
+use Rattle.clock.proofs.SetUp.number.Reads as clock-SetUp-number
+use Rattle.clock.proofs.SetUp.refusal.Reads as clock-SetUp-refusal
+use Rattle.clock.proofs.Sampled.number.Reads as clock-Sampled-number
+use Rattle.clock.proofs.Sampled.refusal.Reads as clock-Sampled-refusal
+use Rattle.clock.proofs.Sampled.elapsed.Reads as clock-Sampled-elapsed
+use Rattle.clock.proofs.Sampled.wrap.Reads as clock-Sampled-wrap
+use Rattle.clock.proofs.Sampled.reading.Reads as clock-Sampled-reading
+use Rattle.clock.proofs.Announced.number.Reads as clock-Announced-number
+use Rattle.clock.proofs.Announced.refusal.Reads as clock-Announced-refusal
+use Rattle.clock.proofs.Announced.dticks.Reads as clock-Announced-dticks
 use Rattle.tickclock.proofs.thread.usage_enable_number.Reads as usage-enable-number
 use Rattle.tickclock.proofs.thread.usage_enable_track_usage.Reads as usage-enable-track-usage
 use Rattle.tickclock.proofs.thread.usage_enable_total_cycles.Reads as usage-enable-total-cycles
@@ -89,6 +100,24 @@ use Rattle.tickclock.proofs.thread.usage_start_decide_number.Reads as usage-sta
 use Rattle.tickclock.proofs.thread.usage_start_decide_record_start.Reads as usage-start-decide-record-start
 use Rattle.tickclock.proofs.thread.usage_stop_decide_number.Reads as usage-stop-decide-number
 use Rattle.tickclock.proofs.thread.usage_stop_decide_accumulate.Reads as usage-stop-decide-accumulate
+use Rattle.tickclock.proofs.timer.systick_elapsed_cycles_number.Reads as systick-elapsed-cycles-number
+use Rattle.tickclock.proofs.timer.systick_elapsed_cycles_cycles.Reads as systick-elapsed-cycles-cycles
+use Rattle.tickclock.proofs.timer.systick_cycles_to_ticks_number.Reads as systick-cycles-to-ticks-number
+use Rattle.tickclock.proofs.timer.systick_cycles_to_ticks_ticks.Reads as systick-cycles-to-ticks-ticks
+use Rattle.tickclock.proofs.timer.systick_ticks_to_cycles_number.Reads as systick-ticks-to-cycles-number
+use Rattle.tickclock.proofs.timer.systick_ticks_to_cycles_cycles.Reads as systick-ticks-to-cycles-cycles
+use Rattle.tickclock.proofs.timer.systick_max_ticks_number.Reads as systick-max-ticks-number
+use Rattle.tickclock.proofs.timer.systick_max_ticks_ticks.Reads as systick-max-ticks-ticks
+use Rattle.tickclock.proofs.timer.systick_elapsed_decide_number.Reads as systick-elapsed-decide-number
+use Rattle.tickclock.proofs.timer.systick_elapsed_decide_wrap_detected.Reads as systick-elapsed-decide-wrap-detected
+use Rattle.tickclock.proofs.timer.systick_elapsed_decide_new_overflow_cyc.Reads as systick-elapsed-decide-new-overflow-cyc
+use Rattle.tickclock.proofs.timer.systick_elapsed_decide_elapsed.Reads as systick-elapsed-decide-elapsed
+use Rattle.tickclock.proofs.timer.systick_announce_decide_number.Reads as systick-announce-decide-number
+use Rattle.tickclock.proofs.timer.systick_announce_decide_dticks.Reads as systick-announce-decide-dticks
+use Rattle.tickclock.proofs.timer.systick_announce_decide_new_cycle_count.Reads as systick-announce-decide-new-cycle-count
+use Rattle.tickclock.proofs.timer.systick_announce_decide_new_announced_cycles.Reads as systick-announce-decide-new-announced-cycles
+use Rattle.tickclock.proofs.timer.counter_value_number.Reads as counter-value-number
+use Rattle.tickclock.proofs.timer.counter_value_value.Reads as counter-value-value
 use Rattle.demands.specs.Outcome.{OneOutcome}
 
 -- a contract that says what the answer is, from the arguments, allows that one alone
@@ -121,12 +150,16 @@ pub systick-outcomes :
     OneOutcome systick-ElapsedDecide-wrap-detected.Post ×
     OneOutcome systick-ElapsedDecide-new-overflow-cyc.Post ×
     OneOutcome systick-ElapsedDecide-elapsed.Post ×
+    OneOutcome systick-ElapsedDecide-refusal.Post ×
     OneOutcome systick-announce-decide.Post ×
     OneOutcome systick-AnnounceDecide-number.Post ×
     OneOutcome systick-AnnounceDecide-dticks.Post ×
     OneOutcome systick-AnnounceDecide-new-cycle-count.Post ×
-    OneOutcome systick-AnnounceDecide-new-announced-cycles.Post
+    OneOutcome systick-AnnounceDecide-new-announced-cycles.Post ×
+    OneOutcome systick-AnnounceDecide-refusal.Post
 systick-outcomes = (
+  once _,
+  once _,
   once _,
   once _,
   once _,
@@ -195,23 +228,65 @@ usage-outcomes = (
   once _,
 )
 
+pub counter-outcomes :
+    OneOutcome counter-good-period.Post ×
+    OneOutcome counter-started.Post ×
+    OneOutcome counter-Counter-in-range.Post ×
+    OneOutcome counter-Counter-cleared.Post ×
+    OneOutcome counter-run.Post ×
+    OneOutcome counter-Ran-number.Post ×
+    OneOutcome counter-Ran-counter.Post ×
+    OneOutcome counter-Ran-refusal.Post ×
+    OneOutcome counter-value-of.Post ×
+    OneOutcome counter-ValueRead-number.Post ×
+    OneOutcome counter-ValueRead-value.Post
+counter-outcomes = (
+  once _,
+  once _,
+  once _,
+  once _,
+  once _,
+  once _,
+  once _,
+  once _,
+  once _,
+  once _,
+  once _,
+)
+
+pub clock-outcomes :
+    OneOutcome clock-set-up.Post ×
+    OneOutcome clock-well-formed.Post ×
+    OneOutcome clock-sample.Post ×
+    OneOutcome clock-announce.Post ×
+    OneOutcome clock-SetUp-number.Post ×
+    OneOutcome clock-SetUp-refusal.Post ×
+    OneOutcome clock-Sampled-number.Post ×
+    OneOutcome clock-Sampled-refusal.Post ×
+    OneOutcome clock-Sampled-elapsed.Post ×
+    OneOutcome clock-Sampled-wrap.Post ×
+    OneOutcome clock-Sampled-reading.Post ×
+    OneOutcome clock-Announced-number.Post ×
+    OneOutcome clock-Announced-refusal.Post ×
+    OneOutcome clock-Announced-dticks.Post
+clock-outcomes = (
+  once _,
+  once _,
+  once _,
+  once _,
+  once _,
+  once _,
+  once _,
+  once _,
+  once _,
+  once _,
+  once _,
+  once _,
+  once _,
+  once _,
+)
+
 pub tickclock-outcomes :
-    OneOutcome systick-elapsed-cycles-number.Post ×
-    OneOutcome systick-elapsed-cycles-cycles.Post ×
-    OneOutcome systick-cycles-to-ticks-number.Post ×
-    OneOutcome systick-cycles-to-ticks-ticks.Post ×
-    OneOutcome systick-ticks-to-cycles-number.Post ×
-    OneOutcome systick-ticks-to-cycles-cycles.Post ×
-    OneOutcome systick-max-ticks-number.Post ×
-    OneOutcome systick-max-ticks-ticks.Post ×
-    OneOutcome systick-elapsed-decide-number.Post ×
-    OneOutcome systick-elapsed-decide-wrap-detected.Post ×
-    OneOutcome systick-elapsed-decide-new-overflow-cyc.Post ×
-    OneOutcome systick-elapsed-decide-elapsed.Post ×
-    OneOutcome systick-announce-decide-number.Post ×
-    OneOutcome systick-announce-decide-dticks.Post ×
-    OneOutcome systick-announce-decide-new-cycle-count.Post ×
-    OneOutcome systick-announce-decide-new-announced-cycles.Post ×
     OneOutcome usage-enable-number.Post ×
     OneOutcome usage-enable-track-usage.Post ×
     OneOutcome usage-enable-total-cycles.Post ×
@@ -241,8 +316,28 @@ pub tickclock-outcomes :
     OneOutcome usage-start-decide-number.Post ×
     OneOutcome usage-start-decide-record-start.Post ×
     OneOutcome usage-stop-decide-number.Post ×
-    OneOutcome usage-stop-decide-accumulate.Post
+    OneOutcome usage-stop-decide-accumulate.Post ×
+    OneOutcome systick-elapsed-cycles-number.Post ×
+    OneOutcome systick-elapsed-cycles-cycles.Post ×
+    OneOutcome systick-cycles-to-ticks-number.Post ×
+    OneOutcome systick-cycles-to-ticks-ticks.Post ×
+    OneOutcome systick-ticks-to-cycles-number.Post ×
+    OneOutcome systick-ticks-to-cycles-cycles.Post ×
+    OneOutcome systick-max-ticks-number.Post ×
+    OneOutcome systick-max-ticks-ticks.Post ×
+    OneOutcome systick-elapsed-decide-number.Post ×
+    OneOutcome systick-elapsed-decide-wrap-detected.Post ×
+    OneOutcome systick-elapsed-decide-new-overflow-cyc.Post ×
+    OneOutcome systick-elapsed-decide-elapsed.Post ×
+    OneOutcome systick-announce-decide-number.Post ×
+    OneOutcome systick-announce-decide-dticks.Post ×
+    OneOutcome systick-announce-decide-new-cycle-count.Post ×
+    OneOutcome systick-announce-decide-new-announced-cycles.Post ×
+    OneOutcome counter-value-number.Post ×
+    OneOutcome counter-value-value.Post
 tickclock-outcomes = (
+  once _,
+  once _,
   once _,
   once _,
   once _,

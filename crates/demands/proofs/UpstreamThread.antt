@@ -24,7 +24,7 @@ use Rattle.usage.proofs.Outcomes as thread
 use Rattle.demands.specs.UpstreamThread.{enable, disable, accumulate, EnableEnsures, DisableEnsures, AccumulateEnsures, ThreadClauses, ThreadLemmas, sysEnabled, sysDisabled}
 use Rattle.demands.proofs.Exactly.{either}
 
--- an accepted change with 0 and the new record; a refused one with -139 and the old record
+-- an accepted change with 0 and the new record
 stored : (u v : ThreadUsage) (answer : Changed) → answer ≡ C.Accepted v → outcomeOf u answer ≡ record { code = ok; usage = v }
 unfolding outcomeOf changedSays kept
 stored u v answer e = ap (outcomeOf u) e
@@ -37,7 +37,7 @@ enable-clauses u (inl on) =
       tracked = on;
       total = refl;
       opened = λ off. let clash : _≡_ {A = ℕ} 0 1 = cc in absurd (omega arith);
-      idle = λ again. refl;
+      windows-kept = λ again. refl;
     })
 enable-clauses u (inr (off, room)) =
     rw (stored u _ (enabled u) (thread.window-opened u off room))
@@ -46,7 +46,7 @@ enable-clauses u (inr (off, room)) =
       tracked = refl;
       total = refl;
       opened = λ again. refl;
-      idle = λ on. let clash : _≡_ {A = ℕ} 0 1 = cc in absurd (omega arith);
+      windows-kept = λ on. let clash : _≡_ {A = ℕ} 0 1 = cc in absurd (omega arith);
     })
 
 full : (u : ThreadUsage) → u .«track_usage» ≡ false → u .«num_windows» ≡ max32 → enable u ≡ record { code = minus 139; usage = u }
@@ -122,6 +122,10 @@ there-and-back : (u : ThreadUsage) → u .«track_usage» ≡ false → (u .«nu
 unfolding outcomeOf changedSays kept
 there-and-back u off room = ap (λ (o : Outcome). disable (o .usage)) (stored u _ (enabled u) (thread.window-opened u off room))
 
+there-and-back-tracked : (u : ThreadUsage) → u .«track_usage» ≡ true → disable (enable u .usage) ≡ record { code = ok; usage = record { «track_usage» = false; «total_cycles» = u .«total_cycles»; «num_windows» = u .«num_windows» } }
+unfolding outcomeOf changedSays kept
+there-and-back-tracked u on = ap (λ (o : Outcome). disable (o .usage)) (stored u _ (enabled u) (thread.already-tracked u on))
+
 never-falls : (u : ThreadUsage) (cycles : ℕ) → u .«total_cycles» .0 ≤ accumulate u cycles .usage .«total_cycles» .0
 never-falls u cycles = by-case (accumulate-clauses u cycles .code)
   where
@@ -138,6 +142,7 @@ thread-lemmas = record {
   lemma-average-zero-windows = λ total. ap (λ (c : Cycles). c .0) (thread.no-windows total 0 refl);
   lemma-average-nonzero-windows = λ total windows p. ap (λ (c : Cycles). c .0) (thread.averaged total windows (λ e. omega arith));
   lemma-enable-disable-roundtrip = there-and-back;
+  lemma-enable-disable-tracked = there-and-back-tracked;
   start-only-when-tracked = λ flag. (only-tracked flag, λ e. ap startDecide e);
   total-never-falls = never-falls;
 }

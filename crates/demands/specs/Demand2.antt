@@ -1,17 +1,18 @@
--- Demand 2: every leaf's field is 01's formula, each refusal comes exactly when 01 says, and ticks made into cycles come back.
+-- Demand 2 of the leaves: those that can refuse do so exactly when 01 says and else give 01's formula; ticks made into cycles come back.
 use Prim.Native.Nat.{ℕ, _+_, _-_, _*_, _/_, _≤_, _<_}
 use mathlib.Core.Path.{_≡_}
 use mathlib.Core.Bool.{Bool, true, false}
 use mathlib.Core.Logic.{_⊎_}
 use Rattle.error.specs.Numbers.{max32, max64}
+use Rattle.error.specs.Said.{accepted}
 use Rattle.units.specs.declared.Cycles.{Cycles}
 use Rattle.units.specs.declared.Ticks.{Ticks}
 use Rattle.systick.specs.Leaves.{elapsedCycles, difference, cyclesToTicks, ticksToCycles, maxTicks, mostTicks, elapsedDecide, elapsedValue, announceDecide, announceValue, dticksOf}
 use Rattle.systick.specs.Says.{elapsedCyclesSays, cyclesToTicksSays, ticksToCyclesSays, maxTicksSays, elapsedDecideSays, announceDecideSays}
 use Rattle.systick.specs.declared.CyclesToTicks.the-variants as T
 use Rattle.systick.specs.declared.TicksToCycles.the-variants as C
-use Rattle.usage.specs.Record.{newIdle, withTotal}
-use Rattle.usage.specs.Leaves.{enabled, enabledRecord, accumulated}
+use Rattle.usage.specs.Record.{newIdle, withFlag, withTotal}
+use Rattle.usage.specs.Leaves.{enabled, enabledRecord, disabled, accumulated}
 use Rattle.usage.specs.Says.{changedSays}
 use Rattle.usage.specs.declared.ThreadUsage.{ThreadUsage}
 use Rattle.demands.specs.Exact.{Exact}
@@ -84,7 +85,11 @@ AccumulateExact =
     ⊥
     (max64 < u .«total_cycles» .0 + cycles)
 
--- wherever ticks_to_cycles accepts, cycles_to_ticks of its answer gives the same ticks
+-- disable is never refused
+abbrev pub DisableExact : Type 0
+DisableExact = (u : ThreadUsage) → changedSays (disabled u) ≡ accepted (withFlag false u)
+
+-- for a tick above 0, wherever ticks_to_cycles accepts, cycles_to_ticks of its answer gives the same ticks
 abbrev pub RoundTrip : Type 0
 RoundTrip =
     (ticks : Ticks) (tick : ℕ) (cycles : Cycles) →

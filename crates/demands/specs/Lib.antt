@@ -1,5 +1,6 @@
 pub mod Exact
 pub mod Demand2
+pub mod Refusals
 pub mod Numbers
 pub mod UpstreamTimer
 pub mod UpstreamThread

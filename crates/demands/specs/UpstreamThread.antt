@@ -31,7 +31,7 @@ pub record EnableEnsures (old : ThreadUsage) (after : Outcome) : Type 0 where
   pub tracked : after .usage .«track_usage» ≡ true
   pub total : after .usage .«total_cycles» ≡ old .«total_cycles»
   pub opened : old .«track_usage» ≡ false → after .usage .«num_windows» ≡ old .«num_windows» + 1
-  pub idle : old .«track_usage» ≡ true → after .usage .«num_windows» ≡ old .«num_windows»
+  pub windows-kept : old .«track_usage» ≡ true → after .usage .«num_windows» ≡ old .«num_windows»
 
 pub record DisableEnsures (old : ThreadUsage) (after : Outcome) : Type 0 where
   pub code : after .code ≡ ok
@@ -83,8 +83,9 @@ pub record ThreadLemmas : Type 0 where
   -- US5
   pub lemma-average-zero-windows : (total : Cycles) → averageCycles total 0 .0 ≡ 0
   pub lemma-average-nonzero-windows : (total : Cycles) (windows : ℕ) → 0 < windows → averageCycles total windows .0 ≡ total .0 / windows
-  -- US3: enable, then disable: the flag cleared, the total kept, windows one more; of a tracked record, windows kept
+  -- US3: enable, then disable: the flag cleared, the total kept, windows one more, or as many where the record was tracked
   pub lemma-enable-disable-roundtrip : (u : ThreadUsage) → u .«track_usage» ≡ false → (u .«num_windows» ≡ max32 → ⊥) → disable (enable u .usage) ≡ record { code = ok; usage = record { «track_usage» = false; «total_cycles» = u .«total_cycles»; «num_windows» = u .«num_windows» + 1 } }
+  pub lemma-enable-disable-tracked : (u : ThreadUsage) → u .«track_usage» ≡ true → disable (enable u .usage) ≡ record { code = ok; usage = record { «track_usage» = false; «total_cycles» = u .«total_cycles»; «num_windows» = u .«num_windows» } }
   -- US1
   pub start-only-when-tracked : (flag : Bool) → (startDecide flag ≡ RecordStart) ↔ (flag ≡ true)
   -- US6

@@ -44,3 +44,12 @@ module _ {R A : Type 0} (refuse : R → A) (answer : A) where
         by-test : (inOrder rows refuse answer ≡ refuse why → FirstIs rows why) → (b : Bool) → row .0 ≡ b → cond b (refuse (row .1)) (inOrder rows refuse answer) ≡ refuse why → FirstIs (row ∷ rows) why
         by-test rest true t q = inl (t, same _ _ q)
         by-test rest false t q = inr (t, rest q)
+
+-- a function of the outcome is the outcome of its values
+pub carried : {R A B : Type 0} (f : A → B) (refuse : R → A) (answer : A) (rows : List (Row R)) → f (inOrder rows refuse answer) ≡ inOrder rows (λ why. f (refuse why)) (f answer)
+carried f refuse answer [] = refl
+carried f refuse answer (row ∷ rows) = by-test (row .0) (carried f refuse answer rows)
+  where
+    by-test : (b : Bool) → f (inOrder rows refuse answer) ≡ inOrder rows (λ why. f (refuse why)) (f answer) → f (cond b (refuse (row .1)) (inOrder rows refuse answer)) ≡ cond b (f (refuse (row .1))) (inOrder rows (λ why. f (refuse why)) (f answer))
+    by-test true rest = refl
+    by-test false rest = rest

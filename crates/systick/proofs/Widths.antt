@@ -31,9 +31,9 @@ most-within : (tick : ℕ) (none : Bool) → cond none 0 (maxLoad / tick - 1) < 
 most-within tick true = omega arith
 most-within tick false = omega (arith, quotient-within maxLoad tick maxLoad (omega arith))
 
-pub max-ticks-fit : (tick : ℕ) → maxTicksSays (maxTicks tick) .value .0 < 2 ^ 32
+pub max-ticks-below : (tick : ℕ) → maxTicksSays (maxTicks tick) .value .0 < 2 ^ 32
 unfolding maxTicks maxTicksSays
-max-ticks-fit tick =
+max-ticks-below tick =
     by-outcome M.Refused (M.Accepted (record { 0 = mostTicks tick }))
     (λ (answer : MaxTicks). maxTicksSays answer .value .0 < 2 ^ 32)
     (tickTests tick)

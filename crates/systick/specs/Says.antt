@@ -1,6 +1,8 @@
 -- What each answer of a timer leaf says: 01's number and values for each of its cases.
 use Prim.Native.Nat.{ℕ}
 use mathlib.Core.Bool.{false}
+use Rattle.error.specs.declared.Refusal.{Refusal}
+use Rattle.error.specs.declared.Refusal.the-variants.{Invalid}
 use Rattle.error.specs.Said.{Said, accepted, refused}
 use Rattle.units.specs.declared.Cycles.{Cycles}
 use Rattle.units.specs.declared.Ticks.{Ticks}
@@ -48,3 +50,12 @@ announceDecideSays (A.Refused why) =
       «new_cycle_count» = record { 0 = 0 };
       «new_announced_cycles» = record { 0 = 0 };
     })
+
+-- why it was refused; of an accepted answer nobody asks, and Invalid stands in
+unfoldable pub elapsedDecideWhy : ElapsedDecide → Refusal
+elapsedDecideWhy (D.Accepted decided) = Invalid
+elapsedDecideWhy (D.Refused why) = why
+
+unfoldable pub announceDecideWhy : AnnounceDecide → Refusal
+announceDecideWhy (A.Accepted decided) = Invalid
+announceDecideWhy (A.Refused why) = why

@@ -1,7 +1,7 @@
 // The timer's leaves: upstream's systick.rs on any numbers, each refusing for itself.
 ghost use mathlib.Core.Path.{_≡_};
 ghost use Rattle.systick.specs.Leaves.{elapsedCycles, cyclesToTicks, ticksToCycles, maxTicks, elapsedDecide, announceDecide};
-ghost use Rattle.systick.specs.Says.{elapsedCyclesSays, cyclesToTicksSays, ticksToCyclesSays, maxTicksSays, elapsedDecideSays, announceDecideSays};
+ghost use Rattle.systick.specs.Says.{elapsedCyclesSays, cyclesToTicksSays, ticksToCyclesSays, maxTicksSays, elapsedDecideSays, elapsedDecideWhy, announceDecideSays, announceDecideWhy};
 use error::Refusal;
 use units::Cycles;
 use units::Ticks;
@@ -252,6 +252,16 @@ impl ElapsedDecide {
             ElapsedDecide::Refused(_) => 0,
         }
     }
+
+    // For whoever has found it refused.
+    pub fn refusal(self) -> Refusal
+        ensures { λ r. ⌜ r ≡ elapsedDecideWhy self ⌝ }
+    {
+        match self {
+            ElapsedDecide::Accepted(_) => Refusal::Invalid,
+            ElapsedDecide::Refused(why) => why,
+        }
+    }
 }
 
 pub struct AnnounceDecideResult {
@@ -335,6 +345,16 @@ impl AnnounceDecide {
         match self {
             AnnounceDecide::Accepted(decided) => decided.new_announced_cycles,
             AnnounceDecide::Refused(_) => Cycles(0),
+        }
+    }
+
+    // For whoever has found it refused.
+    pub fn refusal(self) -> Refusal
+        ensures { λ r. ⌜ r ≡ announceDecideWhy self ⌝ }
+    {
+        match self {
+            AnnounceDecide::Accepted(_) => Refusal::Invalid,
+            AnnounceDecide::Refused(why) => why,
         }
     }
 }

@@ -2,6 +2,8 @@
 ghost use mathlib.Core.Path.{_≡_};
 ghost use Rattle.systick.specs.Leaves.{elapsedCycles, cyclesToTicks, ticksToCycles, maxTicks, elapsedDecide, announceDecide};
 ghost use Rattle.systick.specs.Says.{elapsedCyclesSays, cyclesToTicksSays, ticksToCyclesSays, maxTicksSays, elapsedDecideSays, announceDecideSays};
+ghost use Rattle.counter.specs.Entries.{valueOf};
+ghost use Rattle.counter.specs.Says.{valueSays};
 ghost use Rattle.tickclock.specs.Plain.{isSet, flagOf};
 use crate::plain;
 use units::Cycles;
@@ -197,4 +199,18 @@ pub extern "C" fn systick_announce_decide_new_announced_cycles(
         cycles_per_tick,
     ).new_announced_cycles();
     cycles.0
+}
+
+#[no_mangle]
+pub extern "C" fn counter_value_number(raw: u32, load: u32) -> i32
+    ensures { λ r. ⌜ r ≡ valueSays (valueOf raw load) .number ⌝ }
+{
+    counter::value_of(raw, load).number()
+}
+
+#[no_mangle]
+pub extern "C" fn counter_value_value(raw: u32, load: u32) -> u32
+    ensures { λ r. ⌜ r ≡ valueSays (valueOf raw load) .value ⌝ }
+{
+    counter::value_of(raw, load).value()
 }

@@ -1,4 +1,4 @@
-// Cycles and ticks: two kinds of number that can't be mixed. The conversions in systick are the only way across.
+// Cycles and ticks: two kinds of number that can't be mixed. The conversions in systick are the way across.
 
 // Cycles of the timer's clock: a time, a count or a total.
 pub struct Cycles(pub u64);

@@ -13,7 +13,7 @@ pub struct ThreadUsage {
 }
 
 impl ThreadUsage {
-    // How many threads there are; nothing else says so.
+    // How many threads a ledger keeps. Nothing else says so.
     pub const SLOTS: usize = 16;
 
     // A full count of windows: one more would not fit.
@@ -109,7 +109,7 @@ pub fn disabled(usage: ThreadUsage) -> Changed
     Changed::Accepted(next)
 }
 
-// Cycles added to the total.
+// The total never wraps: what would not fit is refused.
 pub fn accumulated(usage: ThreadUsage, cycles: u32) -> Changed
     ensures { λ r. ⌜ r ≡ accumulated usage cycles ⌝ }
 {
@@ -174,10 +174,10 @@ pub fn sys_enable_decide(current_tracking: bool) -> SysTrackDecision
 pub fn sys_disable_decide(current_tracking: bool) -> SysTrackDecision
     ensures { λ r. ⌜ r ≡ sysDisableDecide «current_tracking» ⌝ }
 {
-    if current_tracking {
-        SysTrackDecision::Apply
-    } else {
+    if !current_tracking {
         SysTrackDecision::NoOp
+    } else {
+        SysTrackDecision::Apply
     }
 }
 
@@ -197,7 +197,7 @@ impl StartDecision {
     }
 }
 
-// Whether a start opens a window besides taking the time.
+// Whether a start begins the window anew besides taking the time; the count of windows stays.
 pub fn start_decide(track_usage: bool) -> StartDecision
     ensures { λ r. ⌜ r ≡ startDecide «track_usage» ⌝ }
 {

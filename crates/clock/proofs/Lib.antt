@@ -1,0 +1,9 @@
+pub mod Outcomes
+pub mod Stretches
+pub mod Owed
+pub mod Sampling
+pub mod Steps
+pub mod Accounts
+pub mod Faithful
+pub mod Runs
+pub mod Shown

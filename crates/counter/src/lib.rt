@@ -1,0 +1,179 @@
+// 01's counter: the definition steps cycle by cycle, the code jumps.
+ghost use mathlib.Core.Path.{_≡_};
+ghost use Prim.Native.Nat.{_+_, _≤_};
+ghost use Rattle.error.specs.Numbers.{max64};
+ghost use Rattle.counter.specs.Cycle.{runN, cleared};
+ghost use Rattle.counter.specs.Entries.{goodPeriod, inRange, startedOf, ranOf, valueOf};
+ghost use Rattle.counter.specs.Says.{ranSays, ranWhy, valueSays};
+ghost use Rattle.counter.specs.Valid.{Valid};
+use error::Refusal;
+use units::Cycles;
+
+pub struct Counter {
+    // Cycles from wrap to wrap: 01's L.
+    pub period: u32,
+    // 01's v, from the period down to 1.
+    pub value: u32,
+    // Set at each wrap, cleared by being read.
+    pub flag: bool,
+    // Cycles run: 01's T.
+    pub cycles: Cycles,
+}
+
+// A counter that was started or run, or the reason why not.
+pub enum Ran {
+    Accepted(Counter),
+    Refused(Refusal),
+}
+
+pub fn good_period(period: u32) -> bool
+    ensures { λ r. ⌜ r ≡ goodPeriod period ⌝ }
+{
+    (Counter::MIN_PERIOD <= period) & (period <= Counter::MAX_PERIOD)
+}
+
+// A counter as setup makes it: at its period, the flag clear, nothing run.
+pub fn started(period: u32) -> Ran
+    ensures { λ r. ⌜ r ≡ startedOf period ⌝ }
+{
+    if good_period(period) {
+        return Ran::Accepted(Counter {
+            period: period,
+            value: period,
+            flag: false,
+            cycles: Cycles(0),
+        });
+    }
+    Ran::Refused(Refusal::Invalid)
+}
+
+impl Counter {
+    pub const MIN_PERIOD: u32 = 2;
+
+    pub const MAX_PERIOD: u32 = 16777215;
+
+    pub fn in_range(self) -> bool
+        ensures { λ r. ⌜ r ≡ inRange self ⌝ }
+    {
+        good_period(self.period) & (1 <= self.value) & (self.value <= self.period)
+    }
+
+    // The counter after its flag was read.
+    pub fn cleared(mut self) -> Counter
+        ensures { λ r. ⌜ r ≡ cleared self ⌝ }
+    {
+        self.flag = false;
+        self
+    }
+}
+
+// n cycles at once. What has passed since the last wrap tells how many wraps come, and where the value ends.
+fn advanced(counter: Counter, n: u32) -> Counter
+    requires { ⌜ Valid (counter .period) counter × (counter .cycles .0 + n ≤ max64) ⌝ }
+    ensures { λ r. ⌜ r ≡ runN n counter ⌝ }
+{
+    let period = counter.period;
+    let since = period - counter.value;
+    let passed = since as u64 + n as u64;
+    let long = period as u64;
+    let wraps = passed / long;
+    let over = passed % long;
+    let rest = over as u32;
+    let value = period - rest;
+    let cycles = counter.cycles.0 + n as u64;
+    Counter {
+        period: period,
+        value: value,
+        flag: counter.flag | (0 < wraps),
+        cycles: Cycles(cycles),
+    }
+}
+
+pub fn run(counter: Counter, n: u32) -> Ran
+    ensures { λ r. ⌜ r ≡ ranOf counter n ⌝ }
+{
+    if counter.in_range() {
+        let room = u64::MAX - n as u64;
+        if room < counter.cycles.0 {
+            return Ran::Refused(Refusal::Overflow);
+        }
+        return Ran::Accepted(advanced(counter, n));
+    }
+    Ran::Refused(Refusal::Invalid)
+}
+
+impl Ran {
+    pub fn number(self) -> i32
+        ensures { λ r. ⌜ r ≡ ranSays self .number ⌝ }
+    {
+        match self {
+            Ran::Accepted(_) => error::OK,
+            Ran::Refused(why) => why.number(),
+        }
+    }
+
+    pub fn counter(self) -> Counter
+        ensures { λ r. ⌜ r ≡ ranSays self .value ⌝ }
+    {
+        match self {
+            Ran::Accepted(counter) => counter,
+            Ran::Refused(_) => Counter {
+                period: 0,
+                value: 0,
+                flag: false,
+                cycles: Cycles(0),
+            },
+        }
+    }
+
+    // For whoever has found it refused.
+    pub fn refusal(self) -> Refusal
+        ensures { λ r. ⌜ r ≡ ranWhy self ⌝ }
+    {
+        match self {
+            Ran::Accepted(_) => Refusal::Invalid,
+            Ran::Refused(why) => why,
+        }
+    }
+}
+
+pub enum ValueRead {
+    Accepted(u32),
+    Refused(Refusal),
+}
+
+// 01's v of what the value register holds: the register shows 0 for the one cycle in which v is the period.
+pub fn value_of(raw: u32, load: u32) -> ValueRead
+    ensures { λ r. ⌜ r ≡ valueOf raw load ⌝ }
+{
+    if good_period(load) {
+        if load <= raw {
+            return ValueRead::Refused(Refusal::Invalid);
+        }
+        if raw == 0 {
+            return ValueRead::Accepted(load);
+        }
+        return ValueRead::Accepted(raw);
+    }
+    ValueRead::Refused(Refusal::Invalid)
+}
+
+impl ValueRead {
+    pub fn number(self) -> i32
+        ensures { λ r. ⌜ r ≡ valueSays self .number ⌝ }
+    {
+        match self {
+            ValueRead::Accepted(_) => error::OK,
+            ValueRead::Refused(why) => why.number(),
+        }
+    }
+
+    pub fn value(self) -> u32
+        ensures { λ r. ⌜ r ≡ valueSays self .value ⌝ }
+    {
+        match self {
+            ValueRead::Accepted(value) => value,
+            ValueRead::Refused(_) => 0,
+        }
+    }
+}

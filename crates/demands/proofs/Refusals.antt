@@ -1,0 +1,53 @@
+-- Counter and clock refuse by their rows.
+use Prim.Native.Nat.{ℕ}
+use mathlib.Core.Path.{_≡_, refl, ap, _∙_}
+use mathlib.Core.Bool.{Bool, true, false, cond, not}
+use mathlib.Core.List.{List, [], _∷_}
+use native.Mathlib.Omega.{arith}
+use Rattle.error.specs.declared.Refusal.{Refusal}
+use Rattle.error.specs.declared.Refusal.the-variants.{Invalid}
+use Rattle.error.specs.InOrder.{Row, inOrder}
+use Rattle.error.proofs.Ordered.{accepts, refuses, accepted-only, refused-only, carried}
+use Rattle.systick.specs.Leaves.{announceDecide, announceTests, announceValue}
+use Rattle.systick.specs.declared.AnnounceDecide.the-variants as D
+use Rattle.counter.specs.declared.Ran.the-variants as R
+use Rattle.counter.specs.declared.ValueRead.the-variants as Read
+use Rattle.counter.specs.Entries.{startedOf, ranOf, valueOf}
+use Rattle.clock.specs.declared.Timer.{Timer}
+use Rattle.clock.specs.declared.SetUp.the-variants as U
+use Rattle.clock.specs.declared.Sampled.the-variants as S
+use Rattle.clock.specs.declared.Announced.the-variants as A
+use Rattle.clock.specs.Timer.{setUp, wellFormed}
+use Rattle.clock.specs.Sample.{sampleOf}
+use Rattle.clock.specs.Announce.{announceOf, announcedBy, announcementFrom, decided}
+use Rattle.demands.specs.Refusals.{ByRows, TimerRefusals}
+
+module _ {Reason Answer : Type 0} (rows : List (Row Reason)) (refuse : Reason → Answer) (answer : Answer) where
+  by-rows : ((why : Reason) → refuse why ≡ answer → ⊥) → ((r s : Reason) → refuse r ≡ refuse s → r ≡ s) → ByRows rows refuse answer (inOrder rows refuse answer)
+  by-rows apart same = record {
+    refused = λ why. (refused-only refuse answer apart same rows why, refuses refuse answer rows why);
+    accepted = (accepted-only refuse answer apart rows, accepts refuse answer rows);
+  }
+
+-- two cases of an enum are never equal
+absurdly : _≡_ {A = ℕ} 0 1 → ⊥
+absurdly e = omega arith
+
+-- the leaf's tests, carried over into the announcement's answer
+announce-rows : (t : Timer) → announceOf t ≡ inOrder ((not (wellFormed t), Invalid) ∷ announceTests (t .clock .count) (t .clock .announced) (t .clock .overflow) (t .clock .tick)) A.Refused (A.Accepted (announcementFrom t (announceValue (t .clock .count) (t .clock .announced) (t .clock .overflow) (t .clock .tick))))
+unfolding announceOf announcedBy announceDecide
+announce-rows t =
+    ap (cond (not (wellFormed t)) (A.Refused Invalid))
+    (carried (announcedBy t) D.Refused (D.Accepted (announceValue (t .clock .count) (t .clock .announced) (t .clock .overflow) (t .clock .tick)))
+    (announceTests (t .clock .count) (t .clock .announced) (t .clock .overflow) (t .clock .tick)))
+
+pub timer-refusals : TimerRefusals
+unfolding startedOf ranOf valueOf setUp sampleOf
+timer-refusals = record {
+  started = λ period. by-rows _ R.Refused _ (λ why e. absurdly (cc)) (λ r s e. cc);
+  run = λ c n. by-rows _ R.Refused _ (λ why e. absurdly (cc)) (λ r s e. cc);
+  value = λ raw period. by-rows _ Read.Refused _ (λ why e. absurdly (cc)) (λ r s e. cc);
+  set-up = λ period tick. by-rows _ U.Refused _ (λ why e. absurdly (cc)) (λ r s e. cc);
+  sample = λ t g. by-rows _ S.Refused _ (λ why e. absurdly (cc)) (λ r s e. cc);
+  announce = λ t. rw (announce-rows t) (by-rows _ A.Refused _ (λ why e. absurdly (cc)) (λ r s e. cc));
+}

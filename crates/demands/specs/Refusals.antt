@@ -1,0 +1,42 @@
+-- Which refusal: each entry of counter and clock refuses with the reason of the first of its tests that holds, and accepts where none does.
+use Prim.Native.Nat.{ℕ}
+use mathlib.Core.Path.{_≡_}
+use mathlib.Core.Bool.{cond, not}
+use mathlib.Core.List.{List, [], _∷_}
+use mathlib.Core.Logic.{_↔_}
+use lib.Dec.{eqb}
+use Rattle.error.specs.declared.Refusal.the-variants.{Invalid}
+use Rattle.error.specs.InOrder.{Row, NoneHolds, FirstIs}
+use Rattle.systick.specs.Leaves.{announceTests, announceValue}
+use Rattle.counter.specs.declared.Counter.{Counter}
+use Rattle.counter.specs.declared.Ran.the-variants as R
+use Rattle.counter.specs.declared.ValueRead.the-variants as Read
+use Rattle.counter.specs.Cycle.{fresh, runN}
+use Rattle.counter.specs.Entries.{goodPeriod, startedOf, runTests, ranOf, valueTests, valueOf}
+use Rattle.clock.specs.declared.Timer.{Timer}
+use Rattle.clock.specs.declared.Gaps.{Gaps}
+use Rattle.clock.specs.declared.SetUp.the-variants as U
+use Rattle.clock.specs.declared.Sampled.the-variants as S
+use Rattle.clock.specs.declared.Announced.the-variants as A
+use Rattle.clock.specs.Timer.{setup, setupTests, setUp, wellFormed}
+use Rattle.clock.specs.Sample.{sampleTests, sampleValue, sampleOf}
+use Rattle.clock.specs.Announce.{announcementFrom, announceOf}
+
+pub record ByRows {Reason Answer : Type 0} (rows : List (Row Reason)) (refuse : Reason → Answer) (answer outcome : Answer) : Type 0 where
+  pub refused : (why : Reason) → (outcome ≡ refuse why) ↔ FirstIs rows why
+  pub accepted : (outcome ≡ answer) ↔ NoneHolds rows
+
+pub record TimerRefusals : Type 0 where
+  pub started : (period : ℕ) → ByRows ((not (goodPeriod period), Invalid) ∷ []) R.Refused (R.Accepted (fresh period)) (startedOf period)
+  pub run : (c : Counter) (n : ℕ) → ByRows (runTests c n) R.Refused (R.Accepted (runN n c)) (ranOf c n)
+  pub value : (raw period : ℕ) → ByRows (valueTests raw period) Read.Refused (Read.Accepted (cond (eqb raw 0) period raw)) (valueOf raw period)
+  pub set-up : (period tick : ℕ) → ByRows (setupTests period tick) U.Refused (U.Accepted (setup period tick)) (setUp period tick)
+  pub sample : (t : Timer) (g : Gaps) → ByRows (sampleTests t g) S.Refused (S.Accepted (sampleValue t g)) (sampleOf t g)
+  -- the state's test first, then the leaf's own
+  pub announce :
+      (t : Timer) →
+      ByRows
+      ((not (wellFormed t), Invalid) ∷ announceTests (t .clock .count) (t .clock .announced) (t .clock .overflow) (t .clock .tick))
+      A.Refused
+      (A.Accepted (announcementFrom t (announceValue (t .clock .count) (t .clock .announced) (t .clock .overflow) (t .clock .tick))))
+      (announceOf t)

@@ -41,7 +41,8 @@
  *                   They run from load down to 1, then to load again.
  *   load            the period: cycles from wrap to wrap, 2 to
  *                   TICKCLOCK_SYSTICK_MAX_LOAD. The reload register holds
- *                   load - 1. No function tests load against these bounds.
+ *                   load - 1. Of the functions below, counter_value alone
+ *                   tests load against these bounds.
  *   stamps          the low 32 bits of a time in cycles, with 1 in place of 0,
  *                   since the stamp 0 means stopped.
  */
@@ -166,12 +167,12 @@ uint32_t systick_max_ticks_ticks(uint32_t cycles_per_tick);
  *   - at most one wrap comes between the val2 of one sample and the next, so
  *     sample at least once a period;
  *   - on a wrap, none comes between val2 and the read that clears COUNTFLAG.
- * A raw 0 is not refused, but puts the time a period ahead: read it as load
- * first, for val1 and val2 (counter_value, below).
+ * A raw 0 is not refused, but may put the time a period ahead: read it as
+ * load first, for val1 and val2 (counter_value, below).
  *
- * Where accepted, store
- * new_overflow_cyc as overflow_cyc; on a wrap, then read COUNTFLAG once more
- * only to clear it, or the next sample may count the same wrap again.
+ * Where accepted, store new_overflow_cyc as overflow_cyc; on a wrap, then read
+ * COUNTFLAG once more only to clear it, or the next sample may count the same
+ * wrap again.
  *
  * Refused, in this order:
  *   TICKCLOCK_EINVAL     val2 is above load

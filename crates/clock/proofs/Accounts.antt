@@ -21,7 +21,7 @@ use Rattle.clock.specs.declared.Announced.the-variants as A
 use Rattle.clock.specs.Timer.{accountedFor, wellFormed, setup}
 use Rattle.clock.specs.Sample.{atC, decision, readingOf, sampleValue}
 use Rattle.clock.specs.Announce.{announceOf, announcedBy, announcementFrom, decided}
-use Rattle.clock.specs.Holds.{NeverAhead, Announced}
+use Rattle.clock.specs.Holds.{NeverAhead, Tells}
 use Rattle.clock.proofs.Outcomes.{announce-decided}
 use Rattle.clock.proofs.Stretches.{Stretches, stretches}
 use Rattle.clock.proofs.Owed.{Owes, run-owes, short, sample-owes}
@@ -152,7 +152,7 @@ module _ (l seen : ℕ) (t : Timer) (k : Accounts l seen t) where
       ap (announcedBy t) (announced-now (t .clock .count) (t .clock .announced) (t .clock .overflow) (t .clock .tick) (k .ticks) (omega (arith, k .owes .total, k .owes .valid .high)) (omega arith) due-fit)
 
   -- the announcement: the largest multiple within the new count, and how far it lags the last reading
-  pub tells : Announced l (t .clock .tick) new (t .clock .announced .0 + (new - t .clock .announced .0) / t .clock .tick * t .clock .tick) (t .clock .last .0) seen
+  pub tells : Tells l (t .clock .tick) (t .clock .announced .0 + (new - t .clock .announced .0) / t .clock .tick * t .clock .tick) new (t .clock .last .0) seen
   tells =
       let whole = div-add-mod' (new - t .clock .announced .0) (t .clock .tick) in
       let rest = mod-lt (new - t .clock .announced .0) (k .ticks) in
@@ -161,7 +161,7 @@ module _ (l seen : ℕ) (t : Timer) (k : Accounts l seen t) where
         within = omega arith;
         largest = omega arith;
         periods = k .periods;
-        read = k .low;
+        behind = k .low;
         lag = omega (arith, k .owes .valid .least);
       }
 

@@ -1,5 +1,7 @@
 -- Every run from setup: what its events keep, carried along the list, gives what Holds states.
-use Prim.Native.Nat.{ℕ, _+_, _-_, _*_, _≤_, _<_}
+use Prim.Native.Nat.{ℕ, _+_, _-_, _*_, _/_, _≤_}
+use native.Mathlib.Omega.{arith}
+use native.Mathlib.Nat.{add-mul, zero-mul, zero-mod, mul-div-cancel}
 use mathlib.Core.Path.{_≡_, refl, sym, ap, _∙_}
 use mathlib.Core.Bool.{Bool, true, false, cond}
 use mathlib.Core.List.{List, [], _∷_}
@@ -12,7 +14,9 @@ use Rattle.clock.specs.Timer.{setup}
 use Rattle.clock.specs.Sample.{decision, sampleOf}
 use Rattle.clock.specs.Announce.{announceOf}
 use Rattle.clock.specs.Run.{World, Event, run, sample, announce, start, step, after, afterRun, afterSample, afterAnnounce, Fair, FairEvent, FairIf}
-use Rattle.clock.specs.Holds.{GoodSetup, Always, AnnouncedIn, Holds, EveryRun}
+use Rattle.clock.specs.Holds.{GoodSetup, NeverAhead, AnnouncedIn, EveryRun}
+use Rattle.counter.proofs.Outcomes.{good-of-bounds}
+use Rattle.clock.proofs.Outcomes.{set-up, sampled}
 use Rattle.clock.proofs.Steps.{ran-by, sampled-by, announced-by}
 use Rattle.clock.proofs.Accounts as accounts
 use Rattle.clock.proofs.Accounts.{Accounts}
@@ -23,21 +27,24 @@ use Rattle.clock.proofs.Faithful.{Faithful}
 pub record Kept (l tick : ℕ) (w : World) : Type 0 where
   pub accounts : Accounts l (w .seen) (w .timer)
   pub same-tick : w .timer .clock .tick ≡ tick
+  pub last : w .timer .clock .last .0 ≡ w .read
+  pub told : w .timer .clock .announced .0 ≡ w .told * tick
+  pub never-ahead : NeverAhead l (w .read) (w .cyclesC)
 
 step-keeps : (l tick : ℕ) (e : Event) (w : World) → Kept l tick w → Kept l tick (step e w)
 unfolding step
 step-keeps l tick (run n) w k =
     ran-by (w .timer .counter) n (λ (o : Ran). Kept l tick (afterRun w n o))
     (λ why. k)
-    (λ ranged fits. record { accounts = accounts.run-keeps l (w .seen) (w .timer) (k .accounts) n fits; same-tick = k .same-tick })
+    (λ ranged fits. record { accounts = accounts.run-keeps l (w .seen) (w .timer) (k .accounts) n fits; same-tick = k .same-tick; last = k .last; told = k .told; never-ahead = k .never-ahead })
 step-keeps l tick (sample g) w k =
     sampled-by (w .timer) g (λ (o : Sampled). Kept l tick (afterSample w g o))
     (λ why. k)
-    (λ let-through. record { accounts = accounts.sample-keeps l (w .seen) (w .timer) (k .accounts) g let-through _ refl; same-tick = k .same-tick })
+    (λ let-through. record { accounts = accounts.sample-keeps l (w .seen) (w .timer) (k .accounts) g let-through _ refl; same-tick = k .same-tick; last = refl; told = k .told; never-ahead = accounts.never-ahead l (w .seen) (w .timer) (k .accounts) g })
 step-keeps l tick announce w k =
     announced-by (w .timer) (λ (o : declared.Announced). Kept l tick (afterAnnounce w o))
     (λ why. k)
-    (λ let-through. record { accounts = accounts.announce-keeps l (w .seen) (w .timer) (k .accounts); same-tick = k .same-tick })
+    (λ let-through. record { accounts = accounts.announce-keeps l (w .seen) (w .timer) (k .accounts); same-tick = k .same-tick; last = k .last; told = rw (k .same-tick) (omega (arith, k .told, add-mul (w .told) ((w .timer .clock .count .0 + w .timer .clock .overflow - w .timer .clock .announced .0) / tick) tick)); never-ahead = k .never-ahead })
 
 keeps : (l tick : ℕ) (es : List Event) (w : World) → Kept l tick w → Kept l tick (after es w)
 unfolding after
@@ -45,23 +52,23 @@ keeps l tick [] w k = k
 keeps l tick (e ∷ es) w k = keeps l tick es (step e w) (step-keeps l tick e w k)
 
 FaithfulWorld : ℕ → World → Type 0
-FaithfulWorld l w = Faithful l (w .before) (w .since) (w .timer)
+FaithfulWorld l w = Faithful l (w .before) (w .since) (w .timer) × (w .read ≡ w .cyclesC)
 
 fair-step : (l : ℕ) (e : Event) (w : World) → FaithfulWorld l w → FairEvent e w → FaithfulWorld l (step e w)
 unfolding step FaithfulWorld
 fair-step l (run n) w k fair =
     ran-by (w .timer .counter) n (λ (o : Ran). FaithfulWorld l (afterRun w n o))
     (λ why. k)
-    (λ ranged fits. faithful.run-keeps l (w .before) (w .since) (w .timer) k n)
+    (λ ranged fits. (faithful.run-keeps l (w .before) (w .since) (w .timer) (k .0) n, k .1))
 fair-step l (sample g) w k fair =
     sampled-by (w .timer) g (λ (o : Sampled). FairIf w g o → FaithfulWorld l (afterSample w g o))
     (λ why nothing. k)
-    (λ let-through premises. faithful.sample-keeps l (w .before) (w .since) (w .timer) k g premises)
+    (λ let-through premises. (faithful.sample-keeps l (w .before) (w .since) (w .timer) (k .0) g premises, faithful.exact l (w .before) (w .since) (w .timer) (k .0) g premises))
     fair
 fair-step l announce w k fair =
     announced-by (w .timer) (λ (o : declared.Announced). FaithfulWorld l (afterAnnounce w o))
     (λ why. k)
-    (λ let-through. faithful.announce-keeps l (w .before) (w .since) (w .timer) k)
+    (λ let-through. (faithful.announce-keeps l (w .before) (w .since) (w .timer) (k .0), k .1))
 
 fair-keeps : (l : ℕ) (es : List Event) (w : World) → FaithfulWorld l w → Fair es w → FaithfulWorld l (after es w)
 unfolding after
@@ -72,31 +79,41 @@ fair-keeps l (e ∷ es) w k fair = fair-keeps l es (step e w) (fair-step l e w k
 announcing : (l tick : ℕ) (w : World) → Kept l tick w → AnnouncedIn l tick (step announce w)
 unfolding step
 announcing l tick w k =
-    rw (accounts.accepts l (w .seen) (w .timer) (k .accounts), ← k .same-tick)
+    rw (accounts.accepts l (w .seen) (w .timer) (k .accounts), ← k .same-tick, ← k .last)
     (accounts.tells l (w .seen) (w .timer) (k .accounts))
 
 module _ (period tick : ℕ) (good : GoodSetup period tick) (es : List Event) where
   kept : Kept period tick (after es (start period tick))
   kept =
       keeps period tick es (start period tick)
-      (record { accounts = accounts.at-setup period tick (good .least) (good .most) (good .ticks); same-tick = refl })
+      (record { accounts = accounts.at-setup period tick (good .least) (good .most) (good .ticks); same-tick = refl; last = refl; told = sym (zero-mul tick); never-ahead = record { below = omega arith; whole = zero-mod period } })
 
   told : Fair es (start period tick) → FaithfulWorld period (after es (start period tick))
   unfolding FaithfulWorld
-  told fair = fair-keeps period es (start period tick) (faithful.at-setup period tick (good .least) (good .most)) fair
+  told fair = fair-keeps period es (start period tick) (faithful.at-setup period tick (good .least) (good .most), refl) fair
+
+-- the same count in periods of l, l not 0
+same-periods : (l m n : ℕ) → 2 ≤ l → m * l ≡ n * l → m ≡ n
+same-periods l m n h e =
+    sym (mul-div-cancel m {n = l} (omega arith)) ∙ ap (λ (k : ℕ). k / l) e ∙ mul-div-cancel n {n = l} (omega arith)
 
 pub every-run : EveryRun
 unfolding FaithfulWorld
 every-run period tick good es =
     let w = after es (start period tick) in
-    let k = kept period tick good es .accounts in
+    let k = kept period tick good es in
     record {
+      set-up = set-up period tick (good-of-bounds period (good .least) (good .most)) (λ none. let some = good .ticks in omega arith);
       always = record {
-        formed = accounts.formed period (w .seen) (w .timer) k;
-        never-ahead = accounts.never-ahead period (w .seen) (w .timer) k;
-        announce-accepted = (_, accounts.accepts period (w .seen) (w .timer) k);
+        formed = accounts.formed period (w .seen) (w .timer) (k .accounts);
+        never-ahead = k .never-ahead;
+        announce-accepted = (_, accounts.accepts period (w .seen) (w .timer) (k .accounts));
+        sample-accepted = λ g room fits. (_, sampled (w .timer) g (accounts.formed period (w .seen) (w .timer) (k .accounts)) room fits);
+        last = k .last;
+        announced = k .told;
       };
-      announcements = announcing period tick w (kept period tick good es);
-      readings = λ fair. faithful.exact period (w .before) (w .since) (w .timer) (told period tick good es fair);
-      counted = λ fair. told period tick good es fair .counted;
+      announcements = announcing period tick w k;
+      faithful = λ fair.
+          let f = told period tick good es fair in
+          record { reads = f .1; sees = same-periods period _ _ (good .least) (sym (k .accounts .periods) ∙ f .0 .counted) };
     }

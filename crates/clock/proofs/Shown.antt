@@ -16,10 +16,12 @@ shown = record {
   printed-fair = omega arith;
   printed-reads = (refl, refl);
   slow = (refl, refl);
-  slow-alone = (omega arith, refl);
+  slow-alone = (λ quick. omega arith, omega arith, λ wrap. refl);
   late = (refl, refl);
-  late-alone = (refl, omega arith, refl);
+  late-alone = (omega arith, λ one. omega arith, λ wrap. refl);
   lost = (refl, refl);
-  lost-alone = (omega arith, refl, refl, omega arith);
+  lost-alone = (omega arith, omega arith, λ none. let clash = none refl in omega arith);
+  lost-then-fair = record { quick = omega arith; one-wrap = omega arith; none-to-D = λ wrap. refl };
+  far-fair = omega arith;
   attained = refl;
 }

@@ -1,17 +1,22 @@
--- What holds of every run of counter and clock from setup. `w` is the state after any list of events.
+-- What holds of every run of counter and clock from setup, after any list of events.
 use Prim.Native.Nat.{ℕ, _+_, _-_, _*_, _%_, _≤_, _<_}
 use mathlib.Core.Path.{_≡_}
 use mathlib.Core.List.{List, [], _∷_}
 use mathlib.Core.Bool.{true}
 use Rattle.counter.specs.Valid.{minPeriod, maxPeriod}
+use Rattle.error.specs.Numbers.{max32, max64}
 use Rattle.clock.specs.declared.Gaps.{Gaps}
+use Rattle.clock.specs.declared.SetUp.the-variants as U
+use Rattle.clock.specs.declared.SampleTaken.{SampleTaken}
+use Rattle.clock.specs.declared.Sampled.the-variants as S
 use Rattle.clock.specs.declared.Announcement.{Announcement}
 use Rattle.clock.specs.declared.Announced.the-variants as A
-use Rattle.clock.specs.Timer.{wellFormed}
+use Rattle.clock.specs.Timer.{setUp, wellFormed}
+use Rattle.clock.specs.Sample.{sampleOf}
 use Rattle.clock.specs.Announce.{announceOf}
-use Rattle.clock.specs.Run.{World, Event, announce, start, step, after, Fair, FairSample, reading, cyclesAtC}
+use Rattle.clock.specs.Run.{World, Event, announce, start, step, after, Fair}
 
--- a setup that is accepted
+-- the numbers of a setup that is accepted
 pub record GoodSetup (period tick : ℕ) : Type 0 where
   pub least : minPeriod ≤ period
   pub most : period ≤ maxPeriod
@@ -23,34 +28,48 @@ pub record NeverAhead (period read cycles : ℕ) : Type 0 where
   pub whole : (cycles - read) % period ≡ 0
 
 -- with no premises, after any run
-pub record Always (period : ℕ) (w : World) : Type 0 where
+pub record Always (period tick : ℕ) (w : World) : Type 0 where
   -- no run from setup is taken for malformed
   pub formed : wellFormed (w .timer) ≡ true
-  pub never-ahead : (g : Gaps) → NeverAhead period (reading w g) (cyclesAtC w g)
+  pub never-ahead : NeverAhead period (w .read) (w .cyclesC)
   pub announce-accepted : (a : Announcement) × (announceOf (w .timer) ≡ A.Accepted a)
+  -- a sample is accepted unless the overflow has no room for it or T would pass 2^64 - 1
+  pub sample-accepted :
+      (g : Gaps) →
+      w .timer .clock .overflow + 2 * w .timer .counter .period - 1 ≤ max32 →
+      w .timer .counter .cycles .0 + (g .p + g .q + g .r) ≤ max64 →
+      (taken : SampleTaken) × (sampleOf (w .timer) g ≡ S.Accepted taken)
+  -- what is stored is what was answered
+  pub last : w .timer .clock .last .0 ≡ w .read
+  pub announced : w .timer .clock .announced .0 ≡ w .told * tick
 
--- with no premises, after an announcement
-pub record Announced (period tick count announced last seen : ℕ) : Type 0 where
+-- with no premises, after an announcement: of the announced cycles, count, the last reading, the samples that answered a wrap
+pub record Tells (period tick announced count read seen : ℕ) : Type 0 where
   -- announced is the largest multiple of the tick within count
   pub multiple : announced % tick ≡ 0
   pub within : announced ≤ count
   pub largest : count < announced + tick
   -- count is the period times the samples so far that answered a wrap
   pub periods : count ≡ seen * period
-  pub read : count ≤ last
-  pub lag : last ≤ announced + (period + tick - 2)
+  pub behind : count ≤ read
+  pub lag : read ≤ announced + (period + tick - 2)
 
 abbrev pub AnnouncedIn : ℕ → ℕ → World → Type 0
-AnnouncedIn period tick w =
-    Announced period tick (w .timer .clock .count .0) (w .timer .clock .announced .0) (w .timer .clock .last .0) (w .seen)
+AnnouncedIn period tick w = Tells period tick (w .timer .clock .announced .0) (w .timer .clock .count .0) (w .read) (w .seen)
 
-pub record Holds (period tick : ℕ) (es : List Event) : Type 0 where
-  pub always : Always period (after es (start period tick))
-  pub announcements : AnnouncedIn period tick (step announce (after es (start period tick)))
-  -- under demand 3's premises a reading equals the cycles run by then
-  pub readings : Fair es (start period tick) → (g : Gaps) → FairSample (after es (start period tick) .since) (after es (start period tick) .timer) g → reading (after es (start period tick)) g ≡ cyclesAtC (after es (start period tick)) g
-  -- and what is counted is the period times the real wraps up to the last C
-  pub counted : Fair es (start period tick) → after es (start period tick) .timer .clock .count .0 + after es (start period tick) .timer .clock .overflow ≡ after es (start period tick) .before * period
+-- under demand 3's premises
+pub record True (w : World) : Type 0 where
+  -- the last reading equals the cycles run by then
+  pub reads : w .read ≡ w .cyclesC
+  -- each real wrap up to the last C was answered by one sample
+  pub sees : w .seen ≡ w .before
+
+pub record Holds (period tick : ℕ) (es : List Event) (w : World) : Type 0 where
+  -- runs start from what setup answers
+  pub set-up : setUp period tick ≡ U.Accepted (start period tick .timer)
+  pub always : Always period tick w
+  pub announcements : AnnouncedIn period tick (step announce w)
+  pub faithful : Fair es (start period tick) → True w
 
 abbrev pub EveryRun : Type 0
-EveryRun = (period tick : ℕ) → GoodSetup period tick → (es : List Event) → Holds period tick es
+EveryRun = (period tick : ℕ) → GoodSetup period tick → (es : List Event) → Holds period tick es (after es (start period tick))

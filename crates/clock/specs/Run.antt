@@ -16,7 +16,7 @@ use Rattle.clock.specs.declared.Sampled.the-variants as S
 use Rattle.clock.specs.declared.Announced.{Announced}
 use Rattle.clock.specs.declared.Announced.the-variants as A
 use Rattle.clock.specs.Timer.{setup}
-use Rattle.clock.specs.Sample.{atB, atC, decision, readingOf, sampleOf}
+use Rattle.clock.specs.Sample.{atB, atC, decision, sampleOf}
 use Rattle.clock.specs.Announce.{announceOf}
 
 pub data Event : Type 0 where
@@ -24,16 +24,20 @@ pub data Event : Type 0 where
   sample : Gaps → Event
   announce : Event
 
--- A run's state. Beside the timer, what only an onlooker knows, told by the events and the stepping counter:
--- the real wraps up to the last C (setup counts as one) and after it, and how many samples answered a wrap.
+-- A run's state, and beside it what an onlooker keeps.
 pub record World : Type 0 where
   pub timer : Timer
+  -- of the stepping counter alone: the real wraps up to the last C (setup counts as one) and after it, and T at that C
   pub before : ℕ
   pub since : ℕ
+  pub cyclesC : ℕ
+  -- of the answers: how many samples said a wrap, the last reading, and the ticks announced so far
   pub seen : ℕ
+  pub read : ℕ
+  pub told : ℕ
 
 abbrev pub start : ℕ → ℕ → World
-start period tick = record { timer = setup period tick; before = 0; since = 0; seen = 0 }
+start period tick = record { timer = setup period tick; before = 0; since = 0; cyclesC = 0; seen = 0; read = 0; told = 0 }
 
 -- the real wraps from A to C
 abbrev pub wrapsAC : Counter → Gaps → ℕ
@@ -45,7 +49,10 @@ afterRun w n (R.Accepted counter) = record {
   timer = record { counter = counter; clock = w .timer .clock };
   before = w .before;
   since = w .since + wraps n (w .timer .counter);
+  cyclesC = w .cyclesC;
   seen = w .seen;
+  read = w .read;
+  told = w .told;
 }
 afterRun w n (R.Refused why) = w
 
@@ -54,12 +61,15 @@ afterSample w g (S.Accepted taken) = record {
   timer = taken .timer;
   before = w .before + w .since + wrapsAC (w .timer .counter) g;
   since = wraps (g .r) (atC (w .timer .counter) g);
+  cyclesC = atC (w .timer .counter) g .cycles .0;
   seen = w .seen + cond (taken .wrap) 1 0;
+  read = taken .reading .0;
+  told = w .told;
 }
 afterSample w g (S.Refused why) = w
 
 abbrev pub afterAnnounce : World → Announced → World
-afterAnnounce w (A.Accepted announcement) = record { timer = announcement .timer; before = w .before; since = w .since; seen = w .seen }
+afterAnnounce w (A.Accepted announcement) = record { timer = announcement .timer; before = w .before; since = w .since; cyclesC = w .cyclesC; seen = w .seen; read = w .read; told = w .told + announcement .dticks .0 }
 afterAnnounce w (A.Refused why) = w
 
 unfoldable pub step : Event → World → World
@@ -72,10 +82,19 @@ after [] w = w
 after (e ∷ es) w = after es (step e w)
 
 -- Demand 3's premises on a sample: it takes less than a period; at most one wrap since the last C; none from C to D where D happens.
+abbrev pub Quick : Timer → Gaps → Type 0
+Quick t g = g .p + g .q < t .counter .period
+
+abbrev pub OneWrap : ℕ → Timer → Gaps → Type 0
+OneWrap since t g = since + wrapsAC (t .counter) g ≤ 1
+
+abbrev pub NoneToD : Timer → Gaps → Type 0
+NoneToD t g = decision t g .«wrap_detected» ≡ true → wraps (g .r) (atC (t .counter) g) ≡ 0
+
 pub record FairSample (since : ℕ) (t : Timer) (g : Gaps) : Type 0 where
-  pub quick : g .p + g .q < t .counter .period
-  pub one-wrap : since + wrapsAC (t .counter) g ≤ 1
-  pub none-to-D : decision t g .«wrap_detected» ≡ true → wraps (g .r) (atC (t .counter) g) ≡ 0
+  pub quick : Quick t g
+  pub one-wrap : OneWrap since t g
+  pub none-to-D : NoneToD t g
 
 -- an event is fair unless it is a sample that breaks a premise; a refused sample touches nothing, so nothing is asked of it
 abbrev pub FairIf : World → Gaps → Sampled → Type 0
@@ -90,10 +109,3 @@ FairEvent announce w = Unit {0}
 abbrev pub Fair : List Event → World → Type 0
 Fair [] w = Unit {0}
 Fair (e ∷ es) w = FairEvent e w × Fair es (step e w)
-
--- what a sample of this state reads, and the cycles run by then
-abbrev pub reading : World → Gaps → ℕ
-reading w g = readingOf (w .timer) g
-
-abbrev pub cyclesAtC : World → Gaps → ℕ
-cyclesAtC w g = atC (w .timer .counter) g .cycles .0

@@ -28,6 +28,7 @@ use Rattle.systick.proofs.AnnounceDecide.refusal.Reads as systick-AnnounceDecid
 use Rattle.usage.proofs.ThreadUsage.new_idle.Reads as usage-ThreadUsage-new-idle
 use Rattle.usage.proofs.Changed.number.Reads as usage-Changed-number
 use Rattle.usage.proofs.Changed.usage.Reads as usage-Changed-usage
+use Rattle.usage.proofs.Changed.refusal.Reads as usage-Changed-refusal
 use Rattle.usage.proofs.Changed.outcome.Reads as usage-Changed-outcome
 use Rattle.usage.proofs.is_tracked.Reads as usage-is-tracked
 use Rattle.usage.proofs.enabled.Reads as usage-enabled
@@ -70,6 +71,22 @@ use Rattle.clock.proofs.Sampled.reading.Reads as clock-Sampled-reading
 use Rattle.clock.proofs.Announced.number.Reads as clock-Announced-number
 use Rattle.clock.proofs.Announced.refusal.Reads as clock-Announced-refusal
 use Rattle.clock.proofs.Announced.dticks.Reads as clock-Announced-dticks
+use Rattle.ledger.proofs.stamp_of.Reads as ledger-stamp-of
+use Rattle.ledger.proofs.runs.Reads as ledger-runs
+use Rattle.ledger.proofs.enter.Reads as ledger-enter
+use Rattle.ledger.proofs.Entered.refusal.Reads as ledger-Entered-refusal
+use Rattle.ledger.proofs.unrecorded.Reads as ledger-unrecorded
+use Rattle.ledger.proofs.past.Reads as ledger-past
+use Rattle.ledger.proofs.busy.Reads as ledger-busy
+use Rattle.ledger.proofs.concerned.Reads as ledger-concerned
+use Rattle.ledger.proofs.operate.Reads as ledger-operate
+use Rattle.ledger.proofs.report.Reads as ledger-report
+use Rattle.ledger.proofs.Answer.number.Reads as ledger-Answer-number
+use Rattle.ledger.proofs.Answer.cycles.Reads as ledger-Answer-cycles
+use Rattle.ledger.proofs.Reported.number.Reads as ledger-Reported-number
+use Rattle.ledger.proofs.Reported.total.Reads as ledger-Reported-total
+use Rattle.ledger.proofs.Reported.average.Reads as ledger-Reported-average
+use Rattle.ledger.proofs.fresh.Reads as ledger-fresh
 use Rattle.tickclock.proofs.thread.usage_enable_number.Reads as usage-enable-number
 use Rattle.tickclock.proofs.thread.usage_enable_track_usage.Reads as usage-enable-track-usage
 use Rattle.tickclock.proofs.thread.usage_enable_total_cycles.Reads as usage-enable-total-cycles
@@ -188,6 +205,7 @@ pub usage-outcomes :
     OneOutcome usage-ThreadUsage-new-idle.Post ×
     OneOutcome usage-Changed-number.Post ×
     OneOutcome usage-Changed-usage.Post ×
+    OneOutcome usage-Changed-refusal.Post ×
     OneOutcome usage-Changed-outcome.Post ×
     OneOutcome usage-is-tracked.Post ×
     OneOutcome usage-enabled.Post ×
@@ -206,6 +224,7 @@ pub usage-outcomes :
     OneOutcome usage-average-cycles.Post ×
     OneOutcome usage-elapsed-cycles.Post
 usage-outcomes = (
+  once _,
   once _,
   once _,
   once _,
@@ -270,6 +289,42 @@ pub clock-outcomes :
     OneOutcome clock-Announced-refusal.Post ×
     OneOutcome clock-Announced-dticks.Post
 clock-outcomes = (
+  once _,
+  once _,
+  once _,
+  once _,
+  once _,
+  once _,
+  once _,
+  once _,
+  once _,
+  once _,
+  once _,
+  once _,
+  once _,
+  once _,
+)
+
+pub ledger-outcomes :
+    OneOutcome ledger-stamp-of.Post ×
+    OneOutcome ledger-runs.Post ×
+    OneOutcome ledger-enter.Post ×
+    OneOutcome ledger-Entered-refusal.Post ×
+    OneOutcome ledger-unrecorded.Post ×
+    OneOutcome ledger-past.Post ×
+    OneOutcome ledger-busy.Post ×
+    OneOutcome ledger-concerned.Post ×
+    OneOutcome ledger-operate.Post ×
+    OneOutcome ledger-report.Post ×
+    OneOutcome ledger-Answer-number.Post ×
+    OneOutcome ledger-Answer-cycles.Post ×
+    OneOutcome ledger-Reported-number.Post ×
+    OneOutcome ledger-Reported-total.Post ×
+    OneOutcome ledger-Reported-average.Post ×
+    OneOutcome ledger-fresh.Post
+ledger-outcomes = (
+  once _,
+  once _,
   once _,
   once _,
   once _,

@@ -1,5 +1,7 @@
 -- What each answer of a thread record's leaf says: 01's number and values for each of its cases.
 use mathlib.Core.Bool.{Bool, true, false}
+use Rattle.error.specs.declared.Refusal.{Refusal}
+use Rattle.error.specs.declared.Refusal.the-variants.{Invalid}
 use Rattle.error.specs.Said.{Said, accepted, refused}
 use Rattle.usage.specs.declared.ThreadUsage.{ThreadUsage}
 use Rattle.usage.specs.declared.Changed.{Changed}
@@ -16,6 +18,11 @@ use Rattle.usage.specs.Record.{newIdle}
 unfoldable pub changedSays : Changed → Said ThreadUsage
 changedSays (C.Accepted u) = accepted u
 changedSays (C.Refused why) = refused why newIdle
+
+-- why it was refused; of an accepted answer nobody asks, and Invalid stands in
+unfoldable pub changedWhy : Changed → Refusal
+changedWhy (C.Accepted u) = Invalid
+changedWhy (C.Refused why) = why
 
 -- the record afterwards: the new one, or the old one where the change was refused
 unfoldable pub kept : ThreadUsage → Changed → ThreadUsage

@@ -2,7 +2,7 @@
 ghost use mathlib.Core.Path.{_≡_};
 ghost use Rattle.usage.specs.Record.{newIdle};
 ghost use Rattle.usage.specs.Leaves.{enabled, disabled, accumulated, averageCycles, elapsedCycles, sysEnableDecide, sysDisableDecide, startDecide, stopDecide};
-ghost use Rattle.usage.specs.Says.{changedSays, outcomeOf, applies, recordsStart, accumulates};
+ghost use Rattle.usage.specs.Says.{changedSays, changedWhy, outcomeOf, applies, recordsStart, accumulates};
 use error::Refusal;
 use units::Cycles;
 
@@ -58,6 +58,16 @@ impl Changed {
         match self {
             Changed::Accepted(usage) => usage,
             Changed::Refused(_) => ThreadUsage::new_idle(),
+        }
+    }
+
+    // For whoever has found it refused.
+    pub fn refusal(self) -> Refusal
+        ensures { λ r. ⌜ r ≡ changedWhy self ⌝ }
+    {
+        match self {
+            Changed::Accepted(_) => Refusal::Invalid,
+            Changed::Refused(why) => why,
         }
     }
 

@@ -1,0 +1,4 @@
+pub mod Stamp
+pub mod Entries
+pub mod Operate
+pub mod Says

@@ -2,10 +2,11 @@
 use mathlib.Core.Path.{refl}
 use Rattle.systick.specs.Leaves.{elapsedCycles, ticksToCycles, maxTicks, elapsedDecide, announceDecide}
 use Rattle.usage.specs.Leaves.{accumulated}
+use Rattle.ledger.specs.Stamp.{stampOf}
 use Rattle.demands.specs.Numbers.{Numbers}
 
 pub numbers : Numbers
-unfolding elapsedCycles ticksToCycles maxTicks elapsedDecide announceDecide accumulated
+unfolding elapsedCycles ticksToCycles maxTicks elapsedDecide announceDecide accumulated stampOf
 numbers = record {
   case1 = refl;
   case2 = refl;

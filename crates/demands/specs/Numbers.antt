@@ -1,8 +1,7 @@
 -- 01's "Numbers to check", as one table.
-use Prim.Native.Nat.{ℕ, _%_, _^_}
+use Prim.Native.Nat.{ℕ}
 use mathlib.Core.Path.{_≡_}
-use mathlib.Core.Bool.{Bool, true, false, cond}
-use lib.Dec.{eqb}
+use mathlib.Core.Bool.{Bool, true, false}
 use Rattle.error.specs.declared.Refusal.the-variants.{Overflow}
 use Rattle.systick.specs.Leaves.{elapsedCycles, ticksToCycles, maxTicks, elapsedDecide, announceDecide}
 use Rattle.systick.specs.declared.ElapsedCycles.the-variants as E
@@ -13,6 +12,7 @@ use Rattle.systick.specs.declared.ElapsedDecide.the-variants as D
 use Rattle.systick.specs.declared.AnnounceDecide.{AnnounceDecide}
 use Rattle.systick.specs.declared.AnnounceDecide.the-variants as A
 use Rattle.usage.specs.Leaves as usage
+use Rattle.ledger.specs.Sums.{measured}
 use Rattle.usage.specs.declared.Changed.{Changed}
 use Rattle.usage.specs.declared.Changed.the-variants as R
 
@@ -23,14 +23,6 @@ decided wrap overflow elapsed = D.Accepted (record { «wrap_detected» = wrap; �
 -- announce from 0 with tick 1
 abbrev announcing : ℕ → AnnounceDecide
 announcing count = announceDecide (record { 0 = count }) (record { 0 = 0 }) 0 1
-
--- the stamp of a true time: its low 32 bits, 0 becoming 1
-abbrev stamp : ℕ → ℕ
-stamp time = cond (eqb (time % 2 ^ 32) 0) 1 (time % 2 ^ 32)
-
--- the stamps' difference from one true time to another
-abbrev measured : ℕ → ℕ → ℕ
-measured from to = usage.elapsedCycles (stamp to) (stamp from)
 
 -- a full total, and so many cycles more
 abbrev fullPlus : ℕ → Changed
@@ -47,5 +39,6 @@ pub record Numbers : Type 0 where
   pub case8 : (ticksToCycles (record { 0 = 4294967297 }) 4294967295 ≡ C.Accepted (record { 0 = 18446744073709551615 })) × (ticksToCycles (record { 0 = 4294967298 }) 4294967295 ≡ C.Refused Overflow)
   pub case9 : (announcing 4294967295 ≡ A.Accepted (record { dticks = record { 0 = 4294967295 }; «new_cycle_count» = record { 0 = 4294967295 }; «new_announced_cycles» = record { 0 = 4294967295 } })) × (announcing 4294967296 ≡ A.Refused Overflow)
   pub case10 : usage.elapsedCycles 1 4294967295 ≡ 2
+  -- the stamps of true times
   pub case11 : (measured 1 4294967296 ≡ 0) × (measured 2 4294967296 ≡ 4294967295)
   pub case12 : (fullPlus 0 ≡ R.Accepted (record { «track_usage» = true; «total_cycles» = record { 0 = 18446744073709551615 }; «num_windows» = 1 })) × (fullPlus 1 ≡ R.Refused Overflow)

@@ -2,3 +2,8 @@ pub mod Stamp
 pub mod Entries
 pub mod Operate
 pub mod Says
+pub mod Sums
+pub mod Laws
+pub mod Run
+pub mod Holds
+pub mod Shown

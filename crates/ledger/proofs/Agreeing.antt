@@ -1,0 +1,359 @@
+-- The ledger's fields agree with what an onlooker keeps: carried along every run.
+use Prim.Native.Nat.{ℕ, zero, suc, _+_, _-_, _%_, _^_, _≤_, _<_}
+use mathlib.Core.Path.{_≡_, refl, sym, ap, _∙_, subst}
+use mathlib.Core.Bool.{Bool, true, false, cond, not, _&&_}
+use mathlib.Core.List.{List, [], _∷_}
+use native.Mathlib.Omega.{arith}
+use native.Mathlib.Nat.{add-zero}
+use lib.ListN.{length, getD, set, length-set, replicate, length-replicate}
+use lib.Seq.{getD-set-same, getD-set-other}
+use lib.Dec.{eqb, leb}
+use borrow.Author.Tests.{eqb-true, eqb-false, eq-eqb, ne-eqb, lt-leb, leb-false}
+use Rattle.error.specs.declared.Refusal.{Refusal}
+use Rattle.error.proofs.Ordered.{by-outcome}
+use Rattle.units.specs.declared.Cycles.{Cycles}
+use Rattle.usage.specs.declared.ThreadUsage.{ThreadUsage}
+use Rattle.usage.specs.Record.{newIdle}
+use Rattle.usage.specs.Leaves.{elapsedCycles}
+use Rattle.ledger.specs.declared.Books.{Books}
+use Rattle.ledger.specs.declared.Entry.{Entry}
+use Rattle.ledger.specs.declared.Entered.{Entered}
+use Rattle.ledger.specs.declared.Entered.the-variants as E
+use Rattle.ledger.specs.declared.Operation.{Operation}
+use Rattle.ledger.specs.declared.Operation.the-variants as O
+use Rattle.ledger.specs.declared.Ledger.{Ledger}
+use Rattle.ledger.specs.declared.Answer.the-variants as A
+use Rattle.ledger.specs.declared.Ledgered.{Ledgered}
+use Rattle.ledger.specs.Stamp.{stampOf}
+use Rattle.ledger.specs.Entries.{stopped, runs, enterOf}
+use Rattle.ledger.specs.Laws.{closes, flagAfter, rises, stampAfter, runningAfter, EntryIs}
+use Rattle.ledger.specs.Operate.{unrecorded, past, busy, concerned, recordOf, refusedWith, storedIn, operateTests, operateOf}
+use Rattle.ledger.specs.Sums.{Stretch, sumOf, allOf, chainOf, measured}
+use Rattle.ledger.specs.Run.{World, Event, Open, none, since, begin, isNone, isOf, closesNow, begins, openAfter, trackedAfter, shut, afterAnswer, step, after}
+use Rattle.ledger.specs.Holds.{Marked, EveryRun}
+use Rattle.ledger.proofs.Operating.{within}
+use Rattle.ledger.proofs.Adding.{stamp-sums, stamp-chain}
+use Rattle.ledger.proofs.Entering.{entry-is}
+use Rattle.ledger.proofs.Operated.{stored-by, never-invalid, report-never-invalid}
+
+-- a record stored at k, and every other as it was, in a table of any length
+pub stored : (ts : List ThreadUsage) (k j : ℕ) (v : ThreadUsage) → k < length ts → getD (set ts k v) j newIdle ≡ cond (eqb k j) v (getD ts j newIdle)
+stored ts k j v h = by-test (eqb k j) refl
+  where
+    by-test : (same : Bool) → eqb k j ≡ same → getD (set ts k v) j newIdle ≡ cond same v (getD ts j newIdle)
+    by-test true e = rw (← eqb-true k j e) (getD-set-same ts k v newIdle h)
+    by-test false e = getD-set-other ts k j v newIdle (λ q. eqb-false k j e (sym q))
+
+-- a stamp is never 0
+stamped : (time : ℕ) → stampOf time ≡ 0 → ⊥
+unfolding stampOf
+stamped time = by-test (eqb (time % 2 ^ 32) 0) refl
+  where
+    by-test : (zero : Bool) → eqb (time % 2 ^ 32) 0 ≡ zero → cond zero 1 (time % 2 ^ 32) ≡ 0 → ⊥
+    by-test true e q = omega arith
+    by-test false e q = eqb-false _ _ e q
+
+-- what the books say of the open stretch
+marked-none : (slots : ℕ) (b : Books) (o : Open) → Marked slots b o → stopped b ≡ isNone o
+marked-none slots b none m = eq-eqb _ _ m
+marked-none slots b (since i from) m = ne-eqb _ _ (λ z. stamped from (sym (m .0) ∙ z))
+
+marked-of : (slots : ℕ) (b : Books) (o : Open) → Marked slots b o → (i : ℕ) → runs b i ≡ isOf o i
+unfolding runs
+marked-of slots b none m i = simp (eq-eqb _ _ m)
+marked-of slots b (since j from) m i = simp (ne-eqb (b .stamp) 0 (λ z. stamped from (sym (m .0) ∙ z)), m .1)
+
+marked-recorded : (slots : ℕ) (b : Books) (o : Open) → Marked slots b o → unrecorded b slots ≡ false
+unfolding unrecorded
+marked-recorded slots b none m = simp (eq-eqb _ _ m)
+marked-recorded slots b (since j from) m = simp (ne-eqb (b .stamp) 0 (λ z. stamped from (sym (m .0) ∙ z)), m .1, lt-leb _ _ (m .2))
+
+-- an open stretch began at the last closing or opening
+Follows : Open → ℕ → Type 0
+Follows none last = Unit {0}
+Follows (since i from) last = from ≡ last
+
+record Kept (slots : ℕ) (w : World) : Type 0 where
+  size : length (w .ledger .threads) ≡ slots
+  mark : Marked slots (w .ledger .books) (w .stretch)
+  flags : (i : ℕ) → recordOf (w .ledger) i .«track_usage» ≡ w .tracked i
+  totals : (i : ℕ) → recordOf (w .ledger) i .«total_cycles» .0 ≡ sumOf measured i (w .closed)
+  machine : w .ledger .books .total .0 ≡ allOf measured (w .closed)
+  chain : w .answered ≡ chainOf measured (w .last) (w .times)
+  follows : Follows (w .stretch) (w .last)
+
+-- what the open stretch measures when it is closed at a time, and to whom it is charged
+added : Open → ℕ → ℕ
+added none time = 0
+added (since i from) time = measured from time
+
+owner : Open → (ℕ → Bool) → ℕ → Bool
+owner none tracked j = false
+owner (since i from) tracked j = tracked i && eqb i j
+
+-- a closed stretch is in both sums
+all-after : (w : World) (time : ℕ) (o : Open) (c : Bool) → allOf measured (cond c (shut w time o) (w .closed)) ≡ allOf measured (w .closed) + cond c (added o time) 0
+unfolding allOf added
+all-after w time none true = sym (add-zero _)
+all-after w time (since i from) true = refl
+all-after w time o false = sym (add-zero _)
+
+sum-after : (w : World) (time j : ℕ) (o : Open) (c : Bool) → sumOf measured j (cond c (shut w time o) (w .closed)) ≡ sumOf measured j (w .closed) + cond c (cond (owner o (w .tracked) j) (added o time) 0) 0
+unfolding sumOf added owner
+sum-after w time j none true = sym (add-zero _)
+sum-after w time j (since i from) true = refl
+sum-after w time j o false = sym (add-zero _)
+
+-- the clock's stamp against the open stretch's
+cycles-are : (slots : ℕ) (b : Books) (o : Open) (time : ℕ) → Marked slots b o → isNone o ≡ false → elapsedCycles (stampOf time) (b .stamp) ≡ added o time
+unfolding added
+cycles-are slots b none time m e = absurd (let z : _≡_ {A = ℕ} 0 1 = cc in omega arith)
+cycles-are slots b (since i from) time m e = ap (elapsedCycles (stampOf time)) (m .0)
+
+module _ (slots : ℕ) (w : World) (k : Kept slots w) where
+  abbrev b : Books
+  b = w .ledger .books
+
+  -- the ledger closes exactly where the onlooker says so
+  closing : (op : Operation) → closes b (recordOf (w .ledger) (concerned b op)) op ≡ closesNow w op
+  unfolding closes closesNow concerned
+  closing (O.Start i) = refl
+  closing (O.Switch i) = ap not (marked-none slots b (w .stretch) (k .mark))
+  closing O.Stop = ap not (marked-none slots b (w .stretch) (k .mark))
+  closing (O.Enable i) = simp (k .flags i, marked-of slots b (w .stretch) (k .mark) i)
+  closing (O.Disable i) = simp (k .flags i, marked-of slots b (w .stretch) (k .mark) i)
+
+  -- and then the record concerned is that of the thread whose stretch is open
+  and-true : (x y : Bool) → x && y ≡ true → y ≡ true
+  and-true true y e = e
+  and-true false y e = absurd (let z : _≡_ {A = ℕ} 0 1 = cc in omega arith)
+
+  of-running : (o : Open) → Marked slots b o → not (isNone o) ≡ true → (i : ℕ) → isOf o (cond (eqb (b .stamp) 0) i (b .running)) ≡ true
+  of-running none m e i = absurd (let z : _≡_ {A = ℕ} 0 1 = cc in omega arith)
+  of-running (since j from) m e i = simp (ne-eqb (b .stamp) 0 (λ z. stamped from (sym (m .0) ∙ z)), m .1) (eq-eqb j j refl)
+
+  on-concerned : (op : Operation) → closesNow w op ≡ true → isOf (w .stretch) (concerned b op) ≡ true
+  unfolding closesNow concerned
+  on-concerned (O.Start i) e = absurd (let z : _≡_ {A = ℕ} 0 1 = cc in omega arith)
+  on-concerned (O.Switch i) e = of-running (w .stretch) (k .mark) e i
+  on-concerned O.Stop e = of-running (w .stretch) (k .mark) e 0
+  on-concerned (O.Enable i) e = and-true (not (w .tracked i)) _ e
+  on-concerned (O.Disable i) e = and-true (w .tracked i) _ e
+
+  not-none : (o : Open) (i : ℕ) → isOf o i ≡ true → isNone o ≡ false
+  not-none none i e = absurd (let z : _≡_ {A = ℕ} 0 1 = cc in omega arith)
+  not-none (since j from) i e = refl
+
+  -- the charge of a stretch is that of its own thread, and of no other
+  owned : (o : Open) (at j : ℕ) → isOf o at ≡ true → owner o (w .tracked) j ≡ w .tracked at && eqb at j
+  unfolding owner
+  owned none at j e = absurd (let z : _≡_ {A = ℕ} 0 1 = cc in omega arith)
+  owned (since i from) at j e = rw (eqb-true i at e)
+
+  -- the flag of the thread concerned, and of every other, as the onlooker keeps it
+  module _ (j : ℕ) where
+    flag-of : (op : Operation) → eqb (concerned b op) j ≡ true → flagAfter op (w .tracked (concerned b op)) ≡ trackedAfter w op j
+    unfolding flagAfter trackedAfter concerned
+    flag-of (O.Start i) m = ap (w .tracked) (eqb-true _ _ m)
+    flag-of (O.Switch i) m = ap (w .tracked) (eqb-true _ _ m)
+    flag-of O.Stop m = ap (w .tracked) (eqb-true _ _ m)
+    flag-of (O.Enable i) m = simp m
+    flag-of (O.Disable i) m = simp m
+
+    other-flag : (op : Operation) → eqb (concerned b op) j ≡ false → w .tracked j ≡ trackedAfter w op j
+    unfolding trackedAfter concerned
+    other-flag (O.Start i) m = refl
+    other-flag (O.Switch i) m = refl
+    other-flag O.Stop m = refl
+    other-flag (O.Enable i) m = simp m
+    other-flag (O.Disable i) m = simp m
+
+  -- an accepted entry of an operation at a time
+  module _ (op : Operation) (time : ℕ) (e : Entry) (law : EntryIs b (recordOf (w .ledger) (concerned b op)) (stampOf time) op e) where
+    abbrev at : ℕ
+    at = concerned b op
+
+    -- the cycles answered are those of the stretch that the onlooker closes
+    cycles-of : (c : Bool) → closesNow w op ≡ c → e .cycles ≡ cond c (added (w .stretch) time) 0
+    cycles-of true q = law .cycles ∙ simp (closing op ∙ q) (cycles-are slots b (w .stretch) time (k .mark) (not-none (w .stretch) at (on-concerned op q)))
+    cycles-of false q = law .cycles ∙ simp (closing op ∙ q)
+
+    machine-after : e .books .total .0 ≡ allOf measured (cond (closesNow w op) (shut w time (w .stretch)) (w .closed))
+    machine-after = law .machine ∙ (ap (λ (n : ℕ). n + e .cycles) (k .machine) ∙ (ap (λ (n : ℕ). allOf measured (w .closed) + n) (cycles-of (closesNow w op) refl) ∙ sym (all-after w time (w .stretch) (closesNow w op))))
+
+    -- the total of the record concerned, and of every other
+    credit : (j : ℕ) (c : Bool) → closesNow w op ≡ c → (mine : Bool) → eqb at j ≡ mine → cond mine (cond (w .tracked at) (cond c (added (w .stretch) time) 0) 0) 0 ≡ cond c (cond (owner (w .stretch) (w .tracked) j) (added (w .stretch) time) 0) 0
+    credit j true q mine m = rw (owned (w .stretch) at j (on-concerned op q), m) (both-ways (w .tracked at) mine (added (w .stretch) time))
+      where
+        both-ways : (tracked mine : Bool) (n : ℕ) → cond mine (cond tracked n 0) 0 ≡ cond (tracked && mine) n 0
+        both-ways true true n = refl
+        both-ways true false n = refl
+        both-ways false true n = refl
+        both-ways false false n = refl
+    credit j false q true m = by-flag (w .tracked at)
+      where
+        by-flag : (tracked : Bool) → _≡_ {A = ℕ} (cond tracked 0 0) 0
+        by-flag true = refl
+        by-flag false = refl
+    credit j false q false m = refl
+
+    -- where the record concerned is in the table
+    module _ (inside : at < slots) where
+      here : at < length (w .ledger .threads)
+      here = let size = k .size in omega arith
+
+      record-after : (j : ℕ) → getD (set (w .ledger .threads) at (e .usage)) j newIdle ≡ cond (eqb at j) (e .usage) (recordOf (w .ledger) j)
+      record-after j = stored (w .ledger .threads) at j (e .usage) here
+
+      totals-after : (j : ℕ) → getD (set (w .ledger .threads) at (e .usage)) j newIdle .«total_cycles» .0 ≡ sumOf measured j (cond (closesNow w op) (shut w time (w .stretch)) (w .closed))
+      totals-after j = ap (λ (u : ThreadUsage). u .«total_cycles» .0) (record-after j) ∙ (by-record (eqb at j) refl ∙ sym (sum-after w time j (w .stretch) (closesNow w op)))
+        where
+          by-record : (mine : Bool) → eqb at j ≡ mine → cond mine (e .usage) (recordOf (w .ledger) j) .«total_cycles» .0 ≡ sumOf measured j (w .closed) + cond (closesNow w op) (cond (owner (w .stretch) (w .tracked) j) (added (w .stretch) time) 0) 0
+          by-record true m =
+              law .total ∙
+              (ap (λ (n : ℕ). n + cond (recordOf (w .ledger) at .«track_usage») (e .cycles) 0) (k .totals at) ∙
+              (rw (k .flags at, cycles-of (closesNow w op) refl, eqb-true at j m)
+              (ap (λ (n : ℕ). sumOf measured j (w .closed) + n) (rw (eqb-true at j m) at (credit j (closesNow w op) refl true m)))))
+          by-record false m = k .totals j ∙ (sym (add-zero _) ∙ ap (λ (n : ℕ). sumOf measured j (w .closed) + n) (credit j (closesNow w op) refl false m))
+
+      flags-after : (j : ℕ) → getD (set (w .ledger .threads) at (e .usage)) j newIdle .«track_usage» ≡ trackedAfter w op j
+      flags-after j = ap (λ (u : ThreadUsage). u .«track_usage») (record-after j) ∙ by-record (eqb at j) refl
+        where
+          told : flagAfter op (recordOf (w .ledger) at .«track_usage») ≡ flagAfter op (w .tracked at)
+          told = ap (flagAfter op) (k .flags at)
+
+          by-record : (mine : Bool) → eqb at j ≡ mine → cond mine (e .usage) (recordOf (w .ledger) j) .«track_usage» ≡ trackedAfter w op j
+          by-record true m = law .flag ∙ (told ∙ flag-of j op m)
+          by-record false m = k .flags j ∙ other-flag j op m
+
+    same-mark : (o : Open) → e .books .stamp ≡ b .stamp → e .books .running ≡ b .running → Marked slots b o → Marked slots (e .books) o
+    same-mark none s r m = s ∙ m
+    same-mark (since i from) s r m = (s ∙ m .0, r ∙ m .1, m .2)
+
+    of-thread : (o : Open) (i : ℕ) → isOf o i ≡ true → Marked slots b o → (b .running ≡ i) × (i < slots)
+    of-thread none i q m = absurd (let z : _≡_ {A = ℕ} 0 1 = cc in omega arith)
+    of-thread (since j from) i q m = let same = eqb-true j i q in (m .1 ∙ same, subst (λ (n : ℕ). n < slots) same (m .2))
+
+    -- enable and disable: the mark moves on where a stretch is closed and opened, and stays elsewhere
+    altered-mark : (i : ℕ) → e .books .stamp ≡ cond (closesNow w op) (stampOf time) (b .stamp) → e .books .running ≡ b .running → at ≡ i → (c : Bool) → closesNow w op ≡ c → Marked slots (e .books) (cond c (since i time) (w .stretch))
+    altered-mark i s r a true c =
+        let own = of-thread (w .stretch) i (rw (← a) (on-concerned op c)) (k .mark) in
+        (s ∙ simp c, r ∙ own .0, own .1)
+    altered-mark i s r a false c = same-mark (w .stretch) (s ∙ simp c) r (k .mark)
+
+  module _ (time : ℕ) (e : Entry) where
+    mark-after : (op : Operation) → EntryIs b (recordOf (w .ledger) (concerned b op)) (stampOf time) op e → past op slots ≡ false → Marked slots (e .books) (openAfter w time op)
+    unfolding openAfter stampAfter runningAfter past concerned
+    mark-after (O.Start i) law p = (law .stamp, law .running, leb-false _ _ p)
+    mark-after (O.Switch i) law p = (law .stamp, law .running, leb-false _ _ p)
+    mark-after O.Stop law p = law .stamp
+    mark-after (O.Enable i) law p =
+        altered-mark (O.Enable i) time e law i (law .stamp ∙ ap (λ (c : Bool). cond c (stampOf time) (b .stamp)) (closing (O.Enable i))) (law .running) refl (closesNow w (O.Enable i)) refl
+    mark-after (O.Disable i) law p =
+        altered-mark (O.Disable i) time e law i (law .stamp ∙ ap (λ (c : Bool). cond c (stampOf time) (b .stamp)) (closing (O.Disable i))) (law .running) refl (closesNow w (O.Disable i)) refl
+
+  -- the chain since the last start
+  chain-after : (op : Operation) (time : ℕ) (e : Entry) → EntryIs b (recordOf (w .ledger) (concerned b op)) (stampOf time) op e → (new c : Bool) → closesNow w op ≡ c → cond new 0 (w .answered + e .cycles) ≡ chainOf measured (cond new time (cond c time (w .last))) (cond new [] (cond c (w .last ∷ w .times) (w .times)))
+  unfolding chainOf added Follows
+  chain-after op time e law true c q = refl
+  chain-after op time e law false true q = rw (k .chain, cycles-of op time e law true q) (ap (λ (n : ℕ). chainOf measured (w .last) (w .times) + n) (from-last (w .stretch) (not-none (w .stretch) _ (on-concerned op q)) (k .follows)))
+    where
+      from-last : (o : Open) → isNone o ≡ false → Follows o (w .last) → added o time ≡ measured (w .last) time
+      from-last none n f = absurd (let z : _≡_ {A = ℕ} 0 1 = cc in omega arith)
+      from-last (since i from) n f = ap (λ (t : ℕ). measured t time) f
+  chain-after op time e law false false q = rw (k .chain, cycles-of op time e law false q) (add-zero _)
+
+  -- an open stretch begins at the last closing or opening
+  follows-after : (op : Operation) (time : ℕ) → Follows (openAfter w time op) (cond (begins w op) time (cond (closesNow w op) time (w .last)))
+  unfolding openAfter begins Follows closesNow
+  follows-after (O.Start i) time = refl
+  follows-after (O.Switch i) time = by-test (isNone (w .stretch))
+    where
+      by-test : (empty : Bool) → time ≡ cond empty time (cond (not empty) time (w .last))
+      by-test true = refl
+      by-test false = refl
+  follows-after O.Stop time = tt
+  follows-after (O.Enable i) time = by-test (not (w .tracked i) && isOf (w .stretch) i)
+    where
+      by-test : (c : Bool) → Follows (cond c (since i time) (w .stretch)) (cond c time (w .last))
+      by-test true = refl
+      by-test false = k .follows
+  follows-after (O.Disable i) time = by-test (w .tracked i && isOf (w .stretch) i)
+    where
+      by-test : (c : Bool) → Follows (cond c (since i time) (w .stretch)) (cond c time (w .last))
+      by-test true = refl
+      by-test false = k .follows
+
+step-keeps : (slots : ℕ) → 0 < slots → (ev : Event) (w : World) → Kept slots w → Kept slots (step ev w)
+unfolding step operateOf
+step-keeps slots some ev w k =
+    by-outcome (refusedWith (w .ledger)) _ P (operateTests (w .ledger) (ev .operation)) unchanged
+    (λ tests.
+    stored-by (w .ledger) (concerned (w .ledger .books) (ev .operation)) P
+    (enterOf (w .ledger .books) (recordOf (w .ledger) (concerned (w .ledger .books) (ev .operation))) (stampOf (ev .time)) (ev .operation))
+    unchanged
+    (λ e p. accepted e (entry-is _ _ _ _ e p) (rw (k .size) at (tests .0)) (rw (k .size) at (tests .1 .0))))
+  where
+    P : Ledgered → Type 0
+    P o = Kept slots (afterAnswer w ev (o .ledger) (o .answer))
+
+    unchanged : (why : Refusal) → P (refusedWith (w .ledger) why)
+    unchanged why = record { size = k .size; mark = k .mark; flags = k .flags; totals = k .totals; machine = k .machine; chain = k .chain; follows = k .follows }
+
+    accepted : (e : Entry) → EntryIs (w .ledger .books) (recordOf (w .ledger) (concerned (w .ledger .books) (ev .operation))) (stampOf (ev .time)) (ev .operation) e → unrecorded (w .ledger .books) slots ≡ false → past (ev .operation) slots ≡ false → P (record { answer = A.Accepted (e .cycles); ledger = record { books = e .books; threads = set (w .ledger .threads) (concerned (w .ledger .books) (ev .operation)) (e .usage) } })
+    accepted e law r p =
+        let inside = within (w .ledger .books) (ev .operation) slots some r p in
+        record {
+          size = length-set (w .ledger .threads) (concerned (w .ledger .books) (ev .operation)) (e .usage) ∙ k .size;
+          mark = mark-after slots w k (ev .time) e (ev .operation) law p;
+          flags = flags-after slots w k (ev .operation) (ev .time) e law inside;
+          totals = totals-after slots w k (ev .operation) (ev .time) e law inside;
+          machine = machine-after slots w k (ev .operation) (ev .time) e law;
+          chain = chain-after slots w k (ev .operation) (ev .time) e law (begins w (ev .operation)) (closesNow w (ev .operation)) refl;
+          follows = follows-after slots w k (ev .operation) (ev .time);
+        }
+
+keeps : (slots : ℕ) → 0 < slots → (es : List Event) (w : World) → Kept slots w → Kept slots (after es w)
+unfolding after
+keeps slots some [] w k = k
+keeps slots some (e ∷ es) w k = keeps slots some es (step e w) (step-keeps slots some e w k)
+
+-- a fresh table: every record idle, read anywhere
+idle-at : (slots i : ℕ) → getD (replicate slots newIdle) i newIdle ≡ newIdle
+idle-at zero i = refl
+idle-at (suc n) zero = refl
+idle-at (suc n) (suc i) = idle-at n i
+
+at-begin : (slots : ℕ) → Kept slots (begin slots)
+unfolding sumOf allOf chainOf Follows
+at-begin slots = record {
+  size = length-replicate slots newIdle;
+  mark = refl;
+  flags = λ i. ap (λ (u : ThreadUsage). u .«track_usage») (idle-at slots i);
+  totals = λ i. ap (λ (u : ThreadUsage). u .«total_cycles» .0) (idle-at slots i);
+  machine = refl;
+  chain = refl;
+  follows = tt;
+}
+
+pub every-run : EveryRun
+every-run slots some es =
+    let w = after es (begin slots) in
+    let k = keeps slots some es (begin slots) (at-begin slots) in (
+      record {
+        mark = k .mark;
+        flags = k .flags;
+        totals = k .totals;
+        machine = k .machine;
+        chain = k .chain;
+        never-invalid = never-invalid (w .ledger) (recorded w k);
+        report-never-invalid = report-never-invalid (w .ledger) (recorded w k);
+      },
+      record {
+        threads = λ short i. rw (k .totals i) (stamp-sums i (w .closed) short);
+        chain = λ short. rw (k .chain) (stamp-chain (w .last) (w .times) short);
+      },
+    )
+  where
+    recorded : (w : World) → Kept slots w → unrecorded (w .ledger .books) (length (w .ledger .threads)) ≡ false
+    recorded w k = rw (k .size) (marked-recorded slots (w .ledger .books) (w .stretch) (k .mark))

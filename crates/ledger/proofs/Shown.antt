@@ -1,0 +1,22 @@
+-- The exhibited runs, by computation.
+use mathlib.Core.Path.{refl}
+use native.Mathlib.Omega.{arith}
+use Rattle.usage.specs.Leaves.{enabled, accumulated}
+use Rattle.ledger.specs.Stamp.{stampOf}
+use Rattle.ledger.specs.Entries.{runs, charged, withChange, onward, closeOf, stopOf, switchOf, altered, reopenOf, alterOf, enterOf}
+use Rattle.ledger.specs.Operate.{unrecorded, past, busy, concerned, storedIn, operateOf}
+use Rattle.ledger.specs.Sums.{sumOf}
+use Rattle.ledger.specs.Run.{closesNow, begins, openAfter, trackedAfter, step, after}
+use Rattle.ledger.specs.Shown.{Shown}
+
+pub shown : Shown
+unfolding enabled accumulated stampOf runs charged withChange onward closeOf stopOf switchOf altered reopenOf alterOf enterOf unrecorded past busy concerned storedIn operateOf sumOf closesNow begins openAfter trackedAfter step after
+shown = record {
+  off-by-one = (refl, refl, refl);
+  off-by-one-short = omega arith;
+  chain-off-by-one = (refl, refl);
+  long-chain = (refl, refl, refl);
+  long-chain-short = omega arith;
+  tracked-only = (refl, refl, refl);
+  too-long = refl;
+}

@@ -1,31 +1,26 @@
 -- With no premises: what a run from setup keeps between its events, and what it shows at each.
 use Prim.Native.Nat.{ℕ, zero, suc, _+_, _-_, _*_, _/_, _%_, _≤_, _<_}
-use mathlib.Core.Path.{_≡_, refl, sym, ap, _∙_}
+use mathlib.Core.Path.{_≡_, refl, ap, _∙_}
 use mathlib.Core.Bool.{Bool, true, false, cond, false≢true}
 use native.Mathlib.Omega.{arith}
 use native.Mathlib.Nat.{add-mul, one-mul, zero-mul, suc-mul, div-add-mod', mod-lt, add-mul-mod-self-right, zero-mod, mul-mod-left, div-lt-iff-lt-mul}
 use borrow.Author.Tests.{le-leb}
-use lib.Dec.{leb}
 use Rattle.error.specs.Numbers.{max32, max64}
-use Rattle.counter.specs.Cycle.{runN, wraps}
-use Rattle.counter.specs.Entries.{inRange}
-use Rattle.counter.specs.Valid.{Valid}
-use Rattle.counter.proofs.Cycles.{After, after}
+use Rattle.counter.specs.Cycle.{runN}
+use Rattle.counter.proofs.Cycles.{after}
 use Rattle.counter.proofs.Outcomes.{in-range-of}
 use Rattle.systick.specs.Leaves.{announceValue}
 use Rattle.systick.proofs.Outcomes.{announced-now}
 use Rattle.clock.specs.declared.Timer.{Timer}
 use Rattle.clock.specs.declared.Gaps.{Gaps}
-use Rattle.clock.specs.declared.Announcement.{Announcement}
-use Rattle.clock.specs.declared.Announced.the-variants as A
 use Rattle.clock.specs.Timer.{accountedFor, wellFormed, setup}
 use Rattle.clock.specs.Sample.{atC, decision, readingOf, sampleValue}
-use Rattle.clock.specs.Announce.{announceOf, announcedBy, announcementFrom, decided}
+use Rattle.clock.specs.Announce.{announceOf, announcedBy, announcementFrom}
 use Rattle.clock.specs.Holds.{NeverAhead, Tells}
 use Rattle.clock.proofs.Outcomes.{announce-decided}
 use Rattle.clock.proofs.Stretches.{Stretches, stretches}
 use Rattle.clock.proofs.Owed.{Owes, run-owes, short, sample-owes}
-use Rattle.clock.proofs.Steps.{SampleLet, AnnounceLet, announced}
+use Rattle.clock.proofs.Steps.{SampleLet, announced}
 
 -- seen: the samples so far that answered a wrap
 pub record Accounts (l seen : ℕ) (t : Timer) : Type 0 where

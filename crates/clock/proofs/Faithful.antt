@@ -9,7 +9,7 @@ use lib.Dec.{ltb}
 use Rattle.counter.specs.declared.Counter.{Counter}
 use Rattle.counter.specs.Cycle.{runN, wraps, cleared}
 use Rattle.counter.specs.Valid.{Valid}
-use Rattle.counter.proofs.Cycles.{After, after, valid-cleared}
+use Rattle.counter.proofs.Cycles.{after, valid-cleared}
 use Rattle.systick.specs.Leaves.{announceValue}
 use Rattle.clock.specs.declared.Timer.{Timer}
 use Rattle.clock.specs.declared.Gaps.{Gaps}

@@ -1,7 +1,7 @@
 -- Each outcome of each entry of the clock, from the facts that bring it about.
 use Prim.Native.Nat.{ℕ, _+_, _-_, _*_, _≤_, _<_}
 use mathlib.Core.Path.{_≡_, refl, sym, ap, _∙_}
-use mathlib.Core.Bool.{Bool, true, false, cond, _&&_}
+use mathlib.Core.Bool.{Bool, true, false, _&&_}
 use native.Mathlib.Omega.{arith}
 use borrow.Author.Tests.{le-leb, lt-leb, le-ltb, lt-ltb, leb-true, leb-false, eq-eqb, ne-eqb}
 use lib.Dec.{leb}
@@ -56,9 +56,9 @@ module _ (period tick : ℕ) where
 
 module _ (t : Timer) where
   -- the tests of a state, as the code makes them
-  pub formed : (late : Bool) → inRange (t .counter) ≡ true → late ≡ leb (accountedFor t) (t .counter .cycles .0) → leb 1 (t .clock .tick) && late ≡ wellFormed t
+  pub formed : (not-ahead : Bool) → inRange (t .counter) ≡ true → not-ahead ≡ leb (accountedFor t) (t .counter .cycles .0) → leb 1 (t .clock .tick) && not-ahead ≡ wellFormed t
   unfolding wellFormed
-  formed late e l = simp (e, l)
+  formed not-ahead e l = simp (e, l)
 
   pub unformed : inRange (t .counter) ≡ false → false ≡ wellFormed t
   unfolding wellFormed
@@ -68,10 +68,6 @@ module _ (t : Timer) where
   pub formed-valid : wellFormed t ≡ true → Valid (t .counter .period) (t .counter)
   unfolding wellFormed
   formed-valid e = valid-of (t .counter) (both _ _ (both (inRange (t .counter) && leb 1 (t .clock .tick)) _ e .0) .0)
-
-  pub formed-tick : wellFormed t ≡ true → 1 ≤ t .clock .tick
-  unfolding wellFormed
-  formed-tick e = leb-true _ _ (both (inRange (t .counter)) (leb 1 (t .clock .tick)) (both (inRange (t .counter) && leb 1 (t .clock .tick)) _ e .0) .1)
 
   pub formed-behind : wellFormed t ≡ true → accountedFor t ≤ t .counter .cycles .0
   unfolding wellFormed

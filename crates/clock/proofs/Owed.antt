@@ -1,15 +1,15 @@
 -- With no premises: whole periods may be owed to the clock, but it never counts one that did not run.
-use Prim.Native.Nat.{ℕ, zero, suc, _+_, _-_, _*_, _≤_, _<_}
-use mathlib.Core.Path.{_≡_, refl, sym, ap, _∙_}
-use mathlib.Core.Bool.{Bool, true, false, cond, _||_, false≢true}
+use Prim.Native.Nat.{ℕ, zero, suc, _+_, _-_, _*_, _≤_}
+use mathlib.Core.Path.{_≡_, refl, sym, _∙_}
+use mathlib.Core.Bool.{Bool, true, false, _||_, false≢true}
 use native.Mathlib.Omega.{arith}
-use native.Mathlib.Nat.{add-mul, one-mul, zero-mul, suc-mul}
+use native.Mathlib.Nat.{add-mul, zero-mul, suc-mul}
 use borrow.Author.Tests.{ltb-true}
 use lib.Dec.{ltb}
 use Rattle.counter.specs.declared.Counter.{Counter}
 use Rattle.counter.specs.Cycle.{runN, wraps, cleared}
 use Rattle.counter.specs.Valid.{Valid}
-use Rattle.counter.proofs.Cycles.{After, after, valid-cleared}
+use Rattle.counter.proofs.Cycles.{after, valid-cleared}
 use Rattle.clock.specs.declared.Timer.{Timer}
 use Rattle.clock.specs.declared.Gaps.{Gaps}
 use Rattle.clock.specs.Sample.{atB, atC, decision, readingOf, sampleValue}

@@ -3,16 +3,10 @@ use Prim.Native.Nat.{ℕ, _+_, _-_, _*_, _/_, _≤_}
 use native.Mathlib.Omega.{arith}
 use native.Mathlib.Nat.{add-mul, zero-mul, zero-mod, mul-div-cancel}
 use mathlib.Core.Path.{_≡_, refl, sym, ap, _∙_}
-use mathlib.Core.Bool.{Bool, true, false, cond}
 use mathlib.Core.List.{List, [], _∷_}
-use Rattle.error.specs.declared.Refusal.{Refusal}
 use Rattle.counter.specs.declared.Ran.{Ran}
-use Rattle.counter.specs.Entries.{ranOf}
 use Rattle.clock.specs.declared.Sampled.{Sampled}
 use Rattle.clock.specs.declared.Announced as declared
-use Rattle.clock.specs.Timer.{setup}
-use Rattle.clock.specs.Sample.{decision, sampleOf}
-use Rattle.clock.specs.Announce.{announceOf}
 use Rattle.clock.specs.Run.{World, Event, run, sample, announce, start, step, after, afterRun, afterSample, afterAnnounce, Fair, FairEvent, FairIf}
 use Rattle.clock.specs.Holds.{GoodSetup, NeverAhead, AnnouncedIn, EveryRun}
 use Rattle.counter.proofs.Outcomes.{good-of-bounds}

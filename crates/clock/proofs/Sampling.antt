@@ -1,11 +1,11 @@
 -- What the tests before a sample make sure of: nothing is refused after B, and the reading fits.
-use Prim.Native.Nat.{ℕ, _+_, _-_, _*_, _≤_, _<_}
-use mathlib.Core.Path.{_≡_, refl, sym, ap, _∙_}
+use Prim.Native.Nat.{ℕ, _+_, _-_, _≤_}
+use mathlib.Core.Path.{_≡_, refl, sym, _∙_}
 use mathlib.Core.Bool.{Bool, true, false, cond, false≢true}
 use native.Mathlib.Omega.{arith}
 use native.Mathlib.Nat.{one-mul, zero-mul}
 use Rattle.error.specs.declared.Refusal.{Refusal}
-use Rattle.error.specs.Numbers.{max32, max64}
+use Rattle.error.specs.Numbers.{max64}
 use Rattle.systick.specs.Leaves.{elapsedDecide}
 use Rattle.systick.specs.declared.ElapsedDecideResult.{ElapsedDecideResult}
 use Rattle.systick.specs.declared.ElapsedDecide.{ElapsedDecide}

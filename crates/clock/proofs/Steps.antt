@@ -1,14 +1,14 @@
 -- What an entry answers, by its tests: what holds of every refusal, and of the answer that the tests let through, holds of the outcome.
-use Prim.Native.Nat.{ℕ, _+_, _-_, _*_, _≤_, _<_}
-use mathlib.Core.Path.{_≡_, refl}
+use Prim.Native.Nat.{ℕ, _+_, _-_, _*_, _≤_}
+use mathlib.Core.Path.{_≡_}
 use mathlib.Core.Bool.{true, not}
 use mathlib.Core.List.{[], _∷_}
-use borrow.Author.Tests.{ltb-false, eqb-false, not-false}
+use borrow.Author.Tests.{ltb-false, not-false}
 use Rattle.error.specs.declared.Refusal.{Refusal}
 use Rattle.error.specs.declared.Refusal.the-variants.{Invalid}
 use Rattle.error.specs.Numbers.{max32, max64}
 use Rattle.error.proofs.Ordered.{by-outcome}
-use Rattle.systick.specs.Leaves.{announceDecide, announceTests, announceValue, dticksOf}
+use Rattle.systick.specs.Leaves.{announceDecide, announceTests, announceValue}
 use Rattle.systick.specs.declared.AnnounceDecide.{AnnounceDecide}
 use Rattle.systick.specs.declared.AnnounceDecide.the-variants as D
 use Rattle.counter.specs.declared.Counter.{Counter}

@@ -1,7 +1,7 @@
 -- What holds of every run of counter and clock from setup, after any list of events.
 use Prim.Native.Nat.{ℕ, _+_, _-_, _*_, _%_, _≤_, _<_}
 use mathlib.Core.Path.{_≡_}
-use mathlib.Core.List.{List, [], _∷_}
+use mathlib.Core.List.{List}
 use mathlib.Core.Bool.{true}
 use Rattle.counter.specs.Valid.{minPeriod, maxPeriod}
 use Rattle.error.specs.Numbers.{max32, max64}

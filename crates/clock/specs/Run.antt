@@ -1,13 +1,12 @@
 -- Runs of counter and clock from setup: cycles, samples and announcements, refused ones included.
-use Prim.Native.Nat.{ℕ, _+_, _-_, _*_, _%_, _≤_, _<_}
+use Prim.Native.Nat.{ℕ, _+_, _-_, _≤_, _<_}
 use mathlib.Core.Path.{_≡_}
 use mathlib.Core.List.{List, [], _∷_}
-use mathlib.Core.Bool.{Bool, true, cond}
-use Rattle.error.specs.declared.Refusal.{Refusal}
+use mathlib.Core.Bool.{true, cond}
 use Rattle.counter.specs.declared.Counter.{Counter}
 use Rattle.counter.specs.declared.Ran.{Ran}
 use Rattle.counter.specs.declared.Ran.the-variants as R
-use Rattle.counter.specs.Cycle.{runN, wraps, cleared}
+use Rattle.counter.specs.Cycle.{wraps, cleared}
 use Rattle.counter.specs.Entries.{ranOf}
 use Rattle.clock.specs.declared.Timer.{Timer}
 use Rattle.clock.specs.declared.Gaps.{Gaps}

@@ -1,6 +1,6 @@
 -- A sample: reads v (A), runs p, reads and clears the flag (B), runs q, reads v (C), decides, runs r; on a wrap clears again (D).
 use Prim.Native.Nat.{ℕ, _+_, _-_, _*_, _≤_}
-use mathlib.Core.Bool.{Bool, cond, not}
+use mathlib.Core.Bool.{cond, not}
 use mathlib.Core.List.{List, [], _∷_}
 use lib.Dec.{ltb}
 use Rattle.error.specs.declared.Refusal.{Refusal}

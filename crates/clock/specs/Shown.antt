@@ -1,5 +1,5 @@
 -- Runs that show what Holds is worth: its premises are met, each of them is needed, and the lag is attained.
-use Prim.Native.Nat.{ℕ, _+_, _-_, _≤_, _<_}
+use Prim.Native.Nat.{ℕ, _+_, _-_}
 use mathlib.Core.Path.{_≡_}
 use mathlib.Core.List.{List, [], _∷_}
 use Rattle.clock.specs.declared.Gaps.{Gaps}

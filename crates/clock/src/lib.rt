@@ -130,8 +130,8 @@ pub fn well_formed(timer: Timer) -> bool
     let counter = timer.counter;
     let clock = timer.clock;
     if counter.in_range() {
-        let late = behind(timer);
-        return (1 <= clock.tick) & late;
+        let not_ahead = behind(timer);
+        return (1 <= clock.tick) & not_ahead;
     }
     false
 }

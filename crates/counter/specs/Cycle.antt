@@ -1,6 +1,6 @@
 -- 01's counter, one cycle at a time.
 use Prim.Native.Nat.{ℕ, zero, suc, _+_, _-_}
-use mathlib.Core.Bool.{Bool, false, cond, _||_}
+use mathlib.Core.Bool.{false, cond, _||_}
 use lib.Dec.{eqb}
 use Rattle.counter.specs.declared.Counter.{Counter}
 

@@ -1,21 +1,19 @@
 -- Demand 2 holds: every leaf refuses exactly, and the round trip.
-use Prim.Native.Nat.{ℕ, _+_, _-_, _*_, _/_, _≤_, _<_}
-use mathlib.Core.Path.{_≡_, refl, sym, ap, subst, _∙_}
-use mathlib.Core.Bool.{Bool, true, false, cond}
+use Prim.Native.Nat.{ℕ, _+_, _-_, _*_, _≤_, _<_}
+use mathlib.Core.Path.{_≡_, refl, ap, subst, _∙_}
+use mathlib.Core.Bool.{Bool, true, false}
 use mathlib.Core.Logic.{_⊎_, inl, inr, ⊎-elim}
 use native.Mathlib.Nat.{mul-div-cancel, eq-zero-or-pos}
 use native.Mathlib.Omega.{arith}
 use lib.Dec.{eqb}
 use borrow.Author.Tests.{eqb-true, eqb-false}
 use Rattle.error.specs.Numbers.{max32, max64}
-use Rattle.error.specs.declared.Refusal.the-variants.{Invalid, Overflow}
+use Rattle.error.specs.declared.Refusal.the-variants.{Invalid}
 use Rattle.units.specs.declared.Cycles.{Cycles}
-use Rattle.systick.specs.Leaves.{elapsedCycles, ticksToCycles, cyclesToTicks, dticksOf}
+use Rattle.systick.specs.Leaves.{elapsedCycles, cyclesToTicks, dticksOf}
 use Rattle.systick.specs.Says.{elapsedCyclesSays, cyclesToTicksSays, ticksToCyclesSays, maxTicksSays, elapsedDecideSays, announceDecideSays}
 use Rattle.systick.specs.declared.ElapsedCycles.the-variants as E
 use Rattle.systick.specs.declared.CyclesToTicks.the-variants as T
-use Rattle.systick.specs.declared.TicksToCycles.{TicksToCycles}
-use Rattle.systick.specs.declared.TicksToCycles.the-variants as C
 use Rattle.systick.proofs.Outcomes as timer
 use Rattle.usage.specs.Says.{changedSays}
 use Rattle.usage.proofs.Outcomes as thread

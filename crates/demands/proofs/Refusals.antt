@@ -1,10 +1,9 @@
 -- Counter and clock refuse by their rows.
 use Prim.Native.Nat.{ℕ}
-use mathlib.Core.Path.{_≡_, refl, ap, _∙_}
-use mathlib.Core.Bool.{Bool, true, false, cond, not}
-use mathlib.Core.List.{List, [], _∷_}
+use mathlib.Core.Path.{_≡_, ap}
+use mathlib.Core.Bool.{cond, not}
+use mathlib.Core.List.{List, _∷_}
 use native.Mathlib.Omega.{arith}
-use Rattle.error.specs.declared.Refusal.{Refusal}
 use Rattle.error.specs.declared.Refusal.the-variants.{Invalid}
 use Rattle.error.specs.InOrder.{Row, inOrder}
 use Rattle.error.proofs.Ordered.{accepts, refuses, accepted-only, refused-only, carried}
@@ -19,7 +18,7 @@ use Rattle.clock.specs.declared.Sampled.the-variants as S
 use Rattle.clock.specs.declared.Announced.the-variants as A
 use Rattle.clock.specs.Timer.{setUp, wellFormed}
 use Rattle.clock.specs.Sample.{sampleOf}
-use Rattle.clock.specs.Announce.{announceOf, announcedBy, announcementFrom, decided}
+use Rattle.clock.specs.Announce.{announceOf, announcedBy, announcementFrom}
 use Rattle.demands.specs.Refusals.{ByRows, TimerRefusals}
 
 module _ {Reason Answer : Type 0} (rows : List (Row Reason)) (refuse : Reason → Answer) (answer : Answer) where

@@ -1,25 +1,21 @@
 -- Every clause and lemma of upstream's usage.rs follows from our definitions.
-use Prim.Native.Nat.{ℕ, _+_, _-_, _/_, _%_, _^_, _≤_, _<_}
-use mathlib.Core.Path.{_≡_, refl, sym, ap, _∙_}
-use mathlib.Core.Bool.{Bool, true, false, cond}
-use mathlib.Core.Logic.{_⊎_, inl, inr, ⊎-elim}
+use Prim.Native.Nat.{ℕ, _+_, _-_, _%_, _^_, _≤_, _<_}
+use mathlib.Core.Path.{_≡_, refl, ap}
+use mathlib.Core.Bool.{Bool, true, false}
+use mathlib.Core.Logic.{_⊎_, inl, inr}
 use native.Mathlib.Omega.{arith}
-use lib.IntN.{ℤ}
 use lib.Signed.{mag}
-use lib.Dec.{eqb}
-use borrow.Author.Tests.{eqb-true, eqb-false}
 use Rattle.error.specs.Numbers.{ok, minus, max32, max64}
 use Rattle.units.specs.declared.Cycles.{Cycles}
-use Rattle.usage.specs.Record.{withFlag, withTotal}
-use Rattle.usage.specs.Leaves.{enabled, enabledRecord, disabled, accumulated, averageCycles, elapsedCycles, sysEnableDecide, sysDisableDecide, startDecide, stopDecide}
+use Rattle.usage.specs.Leaves.{enabled, accumulated, elapsedCycles, sysEnableDecide, sysDisableDecide, startDecide, stopDecide}
 use Rattle.usage.specs.Says.{outcomeOf, changedSays, kept, applies}
 use Rattle.usage.specs.declared.ThreadUsage.{ThreadUsage}
 use Rattle.usage.specs.declared.Changed.{Changed}
 use Rattle.usage.specs.declared.Changed.the-variants as C
 use Rattle.usage.specs.declared.Outcome.{Outcome}
 use Rattle.usage.specs.declared.SysTrackDecision.the-variants.{NoOp}
-use Rattle.usage.specs.declared.StartDecision.the-variants.{RecordStart, RecordOnly}
-use Rattle.usage.specs.declared.StopDecision.the-variants.{Accumulate, Skip}
+use Rattle.usage.specs.declared.StartDecision.the-variants.{RecordStart}
+use Rattle.usage.specs.declared.StopDecision.the-variants.{Accumulate}
 use Rattle.usage.proofs.Outcomes as thread
 use Rattle.demands.specs.UpstreamThread.{enable, disable, accumulate, EnableEnsures, DisableEnsures, AccumulateEnsures, ThreadClauses, ThreadLemmas, sysEnabled, sysDisabled}
 use Rattle.demands.proofs.Exactly.{either}

@@ -1,17 +1,15 @@
 -- Every clause and lemma of upstream's systick.rs follows from our definitions.
 use Prim.Native.Nat.{ℕ, _+_, _-_, _*_, _/_, _≤_, _<_, zero-le}
-use mathlib.Core.Path.{_≡_, refl, sym, ap, subst, _∙_}
+use mathlib.Core.Path.{_≡_, refl, sym, ap, _∙_}
 use mathlib.Core.Bool.{Bool, true, false, cond}
-use mathlib.Core.Logic.{_⊎_, inl, inr, ⊎-elim}
-use native.Mathlib.Nat.{mul-div-cancel, le-div-iff-mul-le, div-lt-iff-lt-mul, div-mul-le-self, div-le-self, lt-div-mul-add, le-trans, eq-zero-or-pos, mul-le-mul-right, zero-mul}
+use native.Mathlib.Nat.{le-div-iff-mul-le, div-mul-le-self, div-le-self, lt-div-mul-add, le-trans, mul-le-mul-right, zero-mul}
 use native.Mathlib.Omega.{arith}
 use lib.Dec.{leb, eqb}
-use borrow.Author.Tests.{le-leb, lt-leb, leb-true, leb-false, eqb-false}
-use Rattle.error.specs.Numbers.{ok, max32, max64}
-use Rattle.error.specs.Said.{Said}
+use borrow.Author.Tests.{le-leb, lt-leb, leb-false}
+use Rattle.error.specs.Numbers.{max32, max64}
 use Rattle.units.specs.declared.Cycles.{Cycles}
 use Rattle.units.specs.declared.Ticks.{Ticks}
-use Rattle.systick.specs.Leaves.{elapsedCycles, difference, cyclesToTicks, ticksToCycles, maxTicks, maxLoad, mostTicks, elapsedDecide, wrapOf, overflowAfter, announceDecide, announceValue}
+use Rattle.systick.specs.Leaves.{elapsedCycles, difference, cyclesToTicks, ticksToCycles, maxTicks, maxLoad, mostTicks, elapsedDecide, overflowAfter, announceDecide}
 use Rattle.systick.specs.Says.{elapsedCyclesSays, cyclesToTicksSays, ticksToCyclesSays, maxTicksSays, elapsedDecideSays, announceDecideSays}
 use Rattle.systick.specs.declared.ElapsedCycles.the-variants as E
 use Rattle.systick.specs.declared.CyclesToTicks.the-variants as T
@@ -19,7 +17,7 @@ use Rattle.systick.specs.declared.TicksToCycles.the-variants as C
 use Rattle.systick.specs.declared.MaxTicks.the-variants as M
 use Rattle.systick.proofs.Outcomes as timer
 use Rattle.systick.proofs.Bounds.{product-within, product-over}
-use Rattle.demands.specs.UpstreamTimer.{ElapsedCyclesEnsures, CyclesToTicksEnsures, TicksToCyclesEnsures, MaxTicksEnsures, ElapsedDecideEnsures, AnnounceDecideEnsures, TimerClauses, TimerLemmas}
+use Rattle.demands.specs.UpstreamTimer.{ElapsedCyclesEnsures, TicksToCyclesEnsures, ElapsedDecideEnsures, AnnounceDecideEnsures, TimerClauses, TimerLemmas}
 use Rattle.demands.proofs.Demand2 as demand2
 
 -- a difference does not pass the load

@@ -1,8 +1,8 @@
 -- Tests in order, both ways: what is answered says which tests hold.
-use mathlib.Core.Path.{_≡_, refl, sym, _∙_}
+use mathlib.Core.Path.{_≡_, refl, sym}
 use mathlib.Core.Bool.{Bool, true, false, cond}
 use mathlib.Core.List.{List, [], _∷_}
-use mathlib.Core.Logic.{_⊎_, inl, inr}
+use mathlib.Core.Logic.{inl, inr}
 use Rattle.error.specs.InOrder.{Row, inOrder, NoneHolds, FirstIs}
 
 module _ {R A : Type 0} (refuse : R → A) (answer : A) where

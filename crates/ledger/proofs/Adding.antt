@@ -1,6 +1,6 @@
 -- Sums of stretches, once for any measure that is off by a part of each end: the 32-bit stamps are one, true lengths another.
 use Prim.Native.Nat.{ℕ, _+_, _-_, _%_, _^_, _≤_}
-use mathlib.Core.Path.{_≡_, refl, sym, ap, _∙_}
+use mathlib.Core.Path.{_≡_, refl, ap}
 use mathlib.Core.Bool.{Bool, true, false, cond, _&&_, _||_}
 use mathlib.Core.List.{List, [], _∷_}
 use native.Mathlib.Omega.{arith}
@@ -33,13 +33,6 @@ exact-by from to s t x y h (plain a b c) (plain d e f) = let k = h .order in let
 pub stamps-off : (from to : ℕ) → Short from to → measured from to + off from ≡ length from to + off to
 stamps-off from to h = exact-by from to _ _ _ _ h (low from) (low to)
 
-off-one : (time : ℕ) → off time ≤ 1
-off-one time = by-low (low time)
-  where
-    by-low : Low time (stampOf time) (off time) → off time ≤ 1
-    by-low (bumped a b c) = omega arith
-    by-low (plain a b c) = omega arith
-
 -- a measure that is off by `less` at each end of a stretch
 module _ (measure : ℕ → ℕ → ℕ) (less : ℕ → ℕ) (law : (from to : ℕ) → Short from to → measure from to + less from ≡ length from to + less to) where
   -- along a chain the parts in the middle cancel
@@ -52,27 +45,29 @@ module _ (measure : ℕ → ℕ → ℕ) (less : ℕ → ℕ) (law : (from to : 
       let order = short .0 .order in
       (omega arith, omega arith)
 
-  -- and so from one start to its stop the sums differ by at most one
-  pub chain-within-one : ((time : ℕ) → less time ≤ 1) → (time : ℕ) (times : List ℕ) → ChainShort time times → Within (chainOf measure time times) (length (firstOf time times) time) 1
-  chain-within-one one time times short =
-      let sum = telescopes time times short .0 in
-      let a = one (firstOf time times) in
-      let b = one time in
-      record { low = omega arith; high = omega arith }
+  module _ (most : ℕ → ℕ → ℕ) (ends : (from to : ℕ) → (less from ≤ most from to) × (less to ≤ most from to)) where
+    -- and so from one start to its stop only the first and the last end count
+    pub chain-within : (time : ℕ) (times : List ℕ) → ChainShort time times → Within (chainOf measure time times) (length (firstOf time times) time) (most (firstOf time times) time)
+    chain-within time times short =
+        let sum = telescopes time times short .0 in
+        let e = ends (firstOf time times) time in
+        record { low = omega arith; high = omega arith }
 
-  -- over any list of stretches the sums differ by at most the number of those with an end that is off
-  pub sums-within : (most : ℕ → ℕ → ℕ) → ((from to : ℕ) → (less from ≤ most from to) × (less to ≤ most from to)) → (i : ℕ) (closed : List Stretch) → AllShort closed → Within (sumOf measure i closed) (sumOf length i closed) (sumOf most i closed)
-  unfolding sumOf
-  sums-within most ends i [] short = record { low = omega arith; high = omega arith }
-  sums-within most ends i (s ∷ rest) short =
-      let before = sums-within most ends i rest (short .1) in
-      let e = ends (s .from) (s .to) in
-      let exact = law (s .from) (s .to) (short .0) in
-      one-more _ _ _ _ _ _ before (record { low = omega arith; high = omega arith }) (s .tracked && eqb (s .thread) i)
-    where
-      one-more : (a b c x y z : ℕ) → Within a b c → Within x y z → (mine : Bool) → Within (a + cond mine x 0) (b + cond mine y 0) (c + cond mine z 0)
-      one-more a b c x y z h k true = record { low = omega arith; high = omega arith }
-      one-more a b c x y z h k false = record { low = omega arith; high = omega arith }
+    -- over any list of stretches the sums differ by at most the number of those with an end that is off
+    pub sums-within : (i : ℕ) (closed : List Stretch) → AllShort i closed → Within (sumOf measure i closed) (sumOf length i closed) (sumOf most i closed)
+    unfolding sumOf
+    sums-within i [] short = record { low = omega arith; high = omega arith }
+    sums-within i (s ∷ rest) short = one-more _ _ _ _ _ _ (sums-within i rest (short .1)) (s .tracked && eqb (s .thread) i) (λ mine. within-one s (short .0 mine))
+      where
+        within-one : (s : Stretch) → Short (s .from) (s .to) → Within (measure (s .from) (s .to)) (length (s .from) (s .to)) (most (s .from) (s .to))
+        within-one s h =
+            let e = ends (s .from) (s .to) in
+            let exact = law (s .from) (s .to) h in
+            record { low = omega arith; high = omega arith }
+
+        one-more : (a b c x y z : ℕ) → Within a b c → (mine : Bool) → (mine ≡ true → Within x y z) → Within (a + cond mine x 0) (b + cond mine y 0) (c + cond mine z 0)
+        one-more a b c x y z h true k = let m = k refl in record { low = omega arith; high = omega arith }
+        one-more a b c x y z h false k = record { low = omega arith; high = omega arith }
 
 edge-ends : (from to : ℕ) → (off from ≤ edge from to) × (off to ≤ edge from to)
 unfolding off
@@ -85,14 +80,14 @@ edge-ends from to = by-test (multiple from) (multiple to)
     by-test false false = (omega arith, omega arith)
 
 -- the 32-bit stamps
-pub stamp-sums : (i : ℕ) (closed : List Stretch) → AllShort closed → Within (sumOf measured i closed) (sumOf length i closed) (sumOf edge i closed)
+pub stamp-sums : (i : ℕ) (closed : List Stretch) → AllShort i closed → Within (sumOf measured i closed) (sumOf length i closed) (sumOf edge i closed)
 stamp-sums = sums-within measured off stamps-off edge edge-ends
 
-pub stamp-chain : (time : ℕ) (times : List ℕ) → ChainShort time times → Within (chainOf measured time times) (length (firstOf time times) time) 1
-stamp-chain = chain-within-one measured off stamps-off off-one
+pub stamp-chain : (time : ℕ) (times : List ℕ) → ChainShort time times → Within (chainOf measured time times) (length (firstOf time times) time) (edge (firstOf time times) time)
+stamp-chain = chain-within measured off stamps-off edge edge-ends
 
 -- a measure with no error at all: the sums are the true ones
-pub exact-sums : (measure : ℕ → ℕ → ℕ) → ((from to : ℕ) → Short from to → measure from to ≡ length from to) → (i : ℕ) (closed : List Stretch) → AllShort closed → Within (sumOf measure i closed) (sumOf length i closed) (sumOf (λ from to. 0) i closed)
+pub exact-sums : (measure : ℕ → ℕ → ℕ) → ((from to : ℕ) → Short from to → measure from to ≡ length from to) → (i : ℕ) (closed : List Stretch) → AllShort i closed → Within (sumOf measure i closed) (sumOf length i closed) (sumOf (λ from to. 0) i closed)
 exact-sums measure exact = sums-within measure (λ time. 0) (λ from to short. ap (λ (n : ℕ). n + 0) (exact from to short)) (λ from to. 0) (λ from to. (omega arith, omega arith))
 
 pub stamps-near : StampsNear

@@ -1,5 +1,5 @@
 -- The ledger's fields agree with what an onlooker keeps: carried along every run.
-use Prim.Native.Nat.{ℕ, zero, suc, _+_, _-_, _%_, _^_, _≤_, _<_}
+use Prim.Native.Nat.{ℕ, zero, suc, _+_, _-_, _%_, _^_, _<_}
 use mathlib.Core.Path.{_≡_, refl, sym, ap, _∙_, subst}
 use mathlib.Core.Bool.{Bool, true, false, cond, not, _&&_}
 use mathlib.Core.List.{List, [], _∷_}
@@ -7,34 +7,31 @@ use native.Mathlib.Omega.{arith}
 use native.Mathlib.Nat.{add-zero}
 use lib.ListN.{length, getD, set, length-set, replicate, length-replicate}
 use lib.Seq.{getD-set-same, getD-set-other}
-use lib.Dec.{eqb, leb}
+use lib.Dec.{eqb}
 use borrow.Author.Tests.{eqb-true, eqb-false, eq-eqb, ne-eqb, lt-leb, leb-false}
 use Rattle.error.specs.declared.Refusal.{Refusal}
 use Rattle.error.proofs.Ordered.{by-outcome}
-use Rattle.units.specs.declared.Cycles.{Cycles}
 use Rattle.usage.specs.declared.ThreadUsage.{ThreadUsage}
 use Rattle.usage.specs.Record.{newIdle}
 use Rattle.usage.specs.Leaves.{elapsedCycles}
 use Rattle.ledger.specs.declared.Books.{Books}
 use Rattle.ledger.specs.declared.Entry.{Entry}
-use Rattle.ledger.specs.declared.Entered.{Entered}
-use Rattle.ledger.specs.declared.Entered.the-variants as E
 use Rattle.ledger.specs.declared.Operation.{Operation}
 use Rattle.ledger.specs.declared.Operation.the-variants as O
-use Rattle.ledger.specs.declared.Ledger.{Ledger}
 use Rattle.ledger.specs.declared.Answer.the-variants as A
 use Rattle.ledger.specs.declared.Ledgered.{Ledgered}
 use Rattle.ledger.specs.Stamp.{stampOf}
 use Rattle.ledger.specs.Entries.{stopped, runs, enterOf}
-use Rattle.ledger.specs.Laws.{closes, flagAfter, rises, stampAfter, runningAfter, EntryIs}
-use Rattle.ledger.specs.Operate.{unrecorded, past, busy, concerned, recordOf, refusedWith, storedIn, operateTests, operateOf}
-use Rattle.ledger.specs.Sums.{Stretch, sumOf, allOf, chainOf, measured}
+use Rattle.ledger.specs.Laws.{closes, flagAfter, stampAfter, runningAfter, EntryIs}
+use Rattle.ledger.specs.Operate.{unrecorded, past, concerned, recordOf, refusedWith, operateTests, operateOf}
+use Rattle.ledger.specs.Sums.{sumOf, allOf, chainOf, measured}
 use Rattle.ledger.specs.Run.{World, Event, Open, none, since, begin, isNone, isOf, closesNow, begins, openAfter, trackedAfter, shut, afterAnswer, step, after}
 use Rattle.ledger.specs.Holds.{Marked, EveryRun}
 use Rattle.ledger.proofs.Operating.{within}
 use Rattle.ledger.proofs.Adding.{stamp-sums, stamp-chain}
 use Rattle.ledger.proofs.Entering.{entry-is}
-use Rattle.ledger.proofs.Operated.{stored-by, never-invalid, report-never-invalid}
+use Rattle.ledger.proofs.Operated.{stored-by}
+use Rattle.ledger.proofs.Refusing.{never-invalid, report-never-invalid}
 
 -- a record stored at k, and every other as it was, in a table of any length
 pub stored : (ts : List ThreadUsage) (k j : ℕ) (v : ThreadUsage) → k < length ts → getD (set ts k v) j newIdle ≡ cond (eqb k j) v (getD ts j newIdle)
@@ -350,7 +347,7 @@ every-run slots some es =
         report-never-invalid = report-never-invalid (w .ledger) (recorded w k);
       },
       record {
-        threads = λ short i. rw (k .totals i) (stamp-sums i (w .closed) short);
+        threads = λ i short. rw (k .totals i) (stamp-sums i (w .closed) short);
         chain = λ short. rw (k .chain) (stamp-chain (w .last) (w .times) short);
       },
     )

@@ -1,5 +1,5 @@
 -- Every accepted entry is as its law says.
-use Prim.Native.Nat.{ℕ, _+_, _≤_, _<_}
+use Prim.Native.Nat.{ℕ, _+_}
 use mathlib.Core.Path.{_≡_, refl, sym, ap, _∙_}
 use mathlib.Core.Bool.{Bool, true, false, cond, not, _&&_, Bool·beq}
 use mathlib.Core.List.{[], _∷_}
@@ -15,7 +15,7 @@ use Rattle.usage.specs.declared.ThreadUsage.{ThreadUsage}
 use Rattle.usage.specs.declared.Changed.{Changed}
 use Rattle.usage.specs.declared.Changed.the-variants as C
 use Rattle.usage.specs.Record.{withFlag, withTotal}
-use Rattle.usage.specs.Leaves.{enabled, enabledRecord, enableTests, disabled, accumulated, sumTests, elapsedCycles}
+use Rattle.usage.specs.Leaves.{enabled, enabledRecord, enableTests, accumulated, sumTests, elapsedCycles}
 use Rattle.ledger.specs.declared.Books.{Books}
 use Rattle.ledger.specs.declared.Entry.{Entry}
 use Rattle.ledger.specs.declared.Entered.{Entered}
@@ -37,10 +37,10 @@ onward-by P (E.Accepted e) go-on refused f = f e refl
 onward-by P (E.Refused why) go-on refused f = refused why
 
 -- a charge: the total of a tracked record alone
-record ChargeIs (u : ThreadUsage) (d : ℕ) (v : ThreadUsage) : Type 0 where
-  total : v .«total_cycles» .0 ≡ u .«total_cycles» .0 + cond (u .«track_usage») d 0
-  flag : v .«track_usage» ≡ u .«track_usage»
-  windows : v .«num_windows» ≡ u .«num_windows»
+pub record ChargeIs (u : ThreadUsage) (d : ℕ) (v : ThreadUsage) : Type 0 where
+  pub total : v .«total_cycles» .0 ≡ u .«total_cycles» .0 + cond (u .«track_usage») d 0
+  pub flag : v .«track_usage» ≡ u .«track_usage»
+  pub windows : v .«num_windows» ≡ u .«num_windows»
 
 clash : {P : Type 0} → _≡_ {A = ℕ} 0 1 → P
 clash e = absurd (omega arith)
@@ -79,12 +79,12 @@ alter-is u true v e =
 alter-is u false v e = let is : withFlag false u ≡ v = cc in rw (← is) (record { total = refl; flag = refl; windows = sym (add-zero _) })
 
 -- a close: the stamps' difference, once to the machine and, if tracked, once to the thread
-record CloseIs (b : Books) (u : ThreadUsage) (now : ℕ) (e : Entry) : Type 0 where
-  cycles : e .cycles ≡ elapsedCycles now (b .stamp)
-  books : e .books ≡ shutOf b (e .cycles)
-  charge : ChargeIs u (e .cycles) (e .usage)
+pub record CloseIs (b : Books) (u : ThreadUsage) (now : ℕ) (e : Entry) : Type 0 where
+  pub cycles : e .cycles ≡ elapsedCycles now (b .stamp)
+  pub books : e .books ≡ shutOf b (e .cycles)
+  pub charge : ChargeIs u (e .cycles) (e .usage)
 
-close-is : (b : Books) (u : ThreadUsage) (now : ℕ) (e : Entry) → closeOf b u now ≡ E.Accepted e → CloseIs b u now e
+pub close-is : (b : Books) (u : ThreadUsage) (now : ℕ) (e : Entry) → closeOf b u now ≡ E.Accepted e → CloseIs b u now e
 unfolding closeOf
 close-is b u now e =
     by-outcome E.Refused _ (λ (o : Entered). o ≡ E.Accepted e → CloseIs b u now e)

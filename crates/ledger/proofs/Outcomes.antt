@@ -1,8 +1,7 @@
 -- Each outcome of an entry, from what the code's steps answered.
 use Prim.Native.Nat.{ℕ, _+_, _%_, _^_, _≤_, _<_}
-use mathlib.Core.Path.{_≡_, refl, sym, ap, _∙_}
-use mathlib.Core.Bool.{Bool, true, false, cond, Bool·beq}
-use native.Mathlib.Omega.{arith}
+use mathlib.Core.Path.{_≡_, sym, ap, _∙_}
+use mathlib.Core.Bool.{Bool, true, false, Bool·beq}
 use borrow.Author.Tests.{le-ltb, lt-ltb, eq-eqb, ne-eqb}
 use Rattle.error.specs.declared.Refusal.{Refusal}
 use Rattle.error.specs.declared.Refusal.the-variants.{Overflow}
@@ -17,7 +16,7 @@ use Rattle.ledger.specs.declared.Entry.{Entry}
 use Rattle.ledger.specs.declared.Entered.{Entered}
 use Rattle.ledger.specs.declared.Entered.the-variants as E
 use Rattle.ledger.specs.Stamp.{stampOf}
-use Rattle.ledger.specs.Entries.{openOf, shutOf, entered, charged, withChange, onward, closeOf, stopOf, switchOf, altered, reopenOf, runs, alterOf}
+use Rattle.ledger.specs.Entries.{shutOf, entered, charged, withChange, onward, closeOf, altered, reopenOf, runs, alterOf}
 
 pub low-zero : (reading : ℕ) → reading % 2 ^ 32 ≡ 0 → stampOf reading ≡ 1
 unfolding stampOf

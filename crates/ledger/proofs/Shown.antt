@@ -15,6 +15,7 @@ shown = record {
   off-by-one = (refl, refl, refl);
   off-by-one-short = omega arith;
   chain-off-by-one = (refl, refl);
+  one-too-many = (refl, refl, refl);
   long-chain = (refl, refl, refl);
   long-chain-short = omega arith;
   tracked-only = (refl, refl, refl);

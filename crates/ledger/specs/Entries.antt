@@ -1,12 +1,11 @@
 -- One operation's entry: the books and the one thread record that it concerns, before and after.
 use Prim.Native.Nat.{ℕ, _+_}
 use mathlib.Core.Bool.{Bool, true, false, cond, not, _&&_, Bool·beq}
-use mathlib.Core.List.{List, [], _∷_}
-use lib.Dec.{ltb, leb, eqb}
-use Rattle.error.specs.declared.Refusal.{Refusal}
+use mathlib.Core.List.{[], _∷_}
+use lib.Dec.{ltb, eqb}
 use Rattle.error.specs.declared.Refusal.the-variants.{Overflow}
 use Rattle.error.specs.Numbers.{max64}
-use Rattle.error.specs.InOrder.{Row, inOrder}
+use Rattle.error.specs.InOrder.{inOrder}
 use Rattle.usage.specs.declared.ThreadUsage.{ThreadUsage}
 use Rattle.usage.specs.declared.Changed.{Changed}
 use Rattle.usage.specs.declared.Changed.the-variants as C

@@ -34,12 +34,12 @@ pub record Agrees (slots : ℕ) (w : World) : Type 0 where
 abbrev pub StampsNear : Type 0
 StampsNear = (from to : ℕ) → Short from to → Within (measured from to) (sums.length from to) (edge from to)
 
--- where no stretch is longer than 2^32 - 2 cycles
+-- where the stretches in question are no longer than 2^32 - 2 cycles
 pub record Near (w : World) : Type 0 where
   -- each thread's total misses its true tracked cycles by at most one for each stretch that begins or ends on a multiple of 2^32
-  pub threads : AllShort (w .closed) → (i : ℕ) → Within (recordOf (w .ledger) i .«total_cycles» .0) (sumOf sums.length i (w .closed)) (sumOf edge i (w .closed))
-  -- all stretches since one start, summed, miss by at most one
-  pub chain : ChainShort (w .last) (w .times) → Within (w .answered) (sums.length (firstOf (w .last) (w .times)) (w .last)) 1
+  pub threads : (i : ℕ) → AllShort i (w .closed) → Within (recordOf (w .ledger) i .«total_cycles» .0) (sumOf sums.length i (w .closed)) (sumOf edge i (w .closed))
+  -- all stretches since one start, summed, miss by at most one, and by none unless the first begins or the last ends on such a multiple
+  pub chain : ChainShort (w .last) (w .times) → Within (w .answered) (sums.length (firstOf (w .last) (w .times)) (w .last)) (edge (firstOf (w .last) (w .times)) (w .last))
 
 abbrev pub EveryRun : Type 0
 EveryRun = (slots : ℕ) → 0 < slots → (es : List Event) → Agrees slots (after es (begin slots)) × Near (after es (begin slots))

@@ -1,8 +1,14 @@
 -- What an accepted operation does to the books and to the record that it concerns, field by field.
 use Prim.Native.Nat.{ℕ, _+_, _<_}
 use mathlib.Core.Path.{_≡_}
-use mathlib.Core.Bool.{Bool, true, false, cond, not, _&&_}
+use mathlib.Core.Bool.{Bool, true, false, cond, not, _&&_, _||_}
+use mathlib.Core.List.{List, [], _∷_}
 use lib.ListN.{length}
+use lib.Dec.{ltb, eqb}
+use Rattle.error.specs.declared.Refusal.{Refusal}
+use Rattle.error.specs.declared.Refusal.the-variants.{Invalid, BadThread, Already, Overflow}
+use Rattle.error.specs.Numbers.{ok, max32, max64, numberOf}
+use Rattle.error.specs.InOrder.{Row, inOrder}
 use Rattle.units.specs.declared.Cycles.{Cycles}
 use Rattle.usage.specs.declared.ThreadUsage.{ThreadUsage}
 use Rattle.usage.specs.Leaves.{elapsedCycles}
@@ -15,7 +21,8 @@ use Rattle.ledger.specs.declared.Answer.{Answer}
 use Rattle.ledger.specs.declared.Answer.the-variants as A
 use Rattle.ledger.specs.Stamp.{stampOf}
 use Rattle.ledger.specs.Entries.{stopped, runs}
-use Rattle.ledger.specs.Operate.{concerned, recordOf, operateOf}
+use Rattle.ledger.specs.Operate.{unrecorded, past, busy, concerned, recordOf, operateOf}
+use Rattle.ledger.specs.Says.{answerSays}
 
 -- whether it closes the open stretch
 unfoldable pub closes : Books → ThreadUsage → Operation → Bool
@@ -78,3 +85,22 @@ AnswerIs l reading op next (A.Refused why) = next ≡ l
 
 abbrev pub EveryOperation : Type 0
 EveryOperation = (l : Ledger) (reading : Cycles) (op : Operation) → 0 < length (l .threads) → AnswerIs l reading op (operateOf l reading op .ledger) (operateOf l reading op .answer)
+
+-- Each refusal, exactly: a sum or a count of windows that would not fit comes after 01's tests.
+unfoldable pub tooMany : Books → ThreadUsage → ℕ → Bool
+tooMany b u cycles = ltb max64 (b .total .0 + cycles) || (u .«track_usage» && ltb max64 (u .«total_cycles» .0 + cycles))
+
+unfoldable pub full : Books → ThreadUsage → ℕ → Operation → Bool
+full b u now op = (closes b u op && tooMany b u (elapsedCycles now (b .stamp))) || (rises op (u .«track_usage») && eqb (u .«num_windows») max32)
+
+abbrev pub operateRows : Ledger → Cycles → Operation → List (Row Refusal)
+operateRows l reading op =
+    (unrecorded (l .books) (length (l .threads)), Invalid) ∷
+    (past op (length (l .threads)), BadThread) ∷
+    (busy (l .books) op, Already) ∷
+    (full (l .books) (recordOf l (concerned (l .books) op)) (stampOf (reading .0)) op, Overflow) ∷
+    []
+
+-- an operation's number is that of the first row whose test holds, and 0 where none does
+abbrev pub EveryRefusal : Type 0
+EveryRefusal = (l : Ledger) (reading : Cycles) (op : Operation) → answerSays (operateOf l reading op .answer) .number ≡ inOrder (operateRows l reading op) numberOf ok

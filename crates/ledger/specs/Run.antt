@@ -1,6 +1,5 @@
 -- Runs of a ledger from a fresh one: operations at true times, refused ones included, and what an onlooker keeps of them.
 use Prim.Native.Nat.{ℕ, _+_}
-use mathlib.Core.Path.{_≡_}
 use mathlib.Core.Bool.{Bool, true, false, cond, not, _&&_}
 use mathlib.Core.List.{List, [], _∷_}
 use lib.Dec.{eqb}
@@ -9,7 +8,6 @@ use Rattle.ledger.specs.declared.Operation.the-variants as O
 use Rattle.ledger.specs.declared.Ledger.{Ledger}
 use Rattle.ledger.specs.declared.Answer.{Answer}
 use Rattle.ledger.specs.declared.Answer.the-variants as A
-use Rattle.ledger.specs.declared.Ledgered.{Ledgered}
 use Rattle.ledger.specs.Operate.{freshOf, operateOf}
 use Rattle.ledger.specs.Sums.{Stretch}
 

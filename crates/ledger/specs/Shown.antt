@@ -1,7 +1,7 @@
 -- Runs that show what Holds is worth: the miss of one cycle is attained, by a thread's total and along a chain, and 2^32 - 1 cycles are too many.
-use Prim.Native.Nat.{ℕ, _+_, _-_}
+use Prim.Native.Nat.{ℕ, _-_}
 use mathlib.Core.Path.{_≡_}
-use mathlib.Core.List.{List, [], _∷_}
+use mathlib.Core.List.{[], _∷_}
 use Rattle.ledger.specs.declared.Operation.{Operation}
 use Rattle.ledger.specs.declared.Operation.the-variants as O
 use Rattle.ledger.specs.Operate.{recordOf}
@@ -16,15 +16,21 @@ at time operation = record { operation = operation; time = time }
 abbrev pub nine : World
 nine = after (at 0 (O.Enable 0) ∷ at 0 (O.Start 0) ∷ at 9 O.Stop ∷ []) (begin 2)
 
--- start 0; switch to 1, to the same thread and back on the way; disable and enable it; stop
+-- start 0; switch to 1; enable it; switch to the same thread; disable and enable it; stop
 abbrev pub busy : World
 busy = after (at 0 (O.Start 0) ∷ at 3 (O.Switch 1) ∷ at 5 (O.Enable 1) ∷ at 7 (O.Switch 1) ∷ at 8 (O.Disable 1) ∷ at 9 (O.Enable 1) ∷ at 14 O.Stop ∷ []) (begin 2)
+
+-- enable 0; start 0 at 9 cycles before 2^32; stop at 2^32
+abbrev pub late : World
+late = after (at 0 (O.Enable 0) ∷ at 4294967287 (O.Start 0) ∷ at 4294967296 O.Stop ∷ []) (begin 2)
 
 pub record Shown : Type 0 where
   -- measured 8, true 9, and one stretch begins on a multiple of 2^32
   pub off-by-one : (recordOf (nine .ledger) 0 .«total_cycles» .0 ≡ 8) × (sumOf sums.length 0 (nine .closed) ≡ 9) × (sumOf edge 0 (nine .closed) ≡ 1)
-  pub off-by-one-short : AllShort (nine .closed) × ChainShort (nine .last) (nine .times)
+  pub off-by-one-short : AllShort 0 (nine .closed) × ChainShort (nine .last) (nine .times)
   pub chain-off-by-one : (nine .answered ≡ 8) × (nine .last ≡ 9)
+  -- measured 10, true 9, and it ends on a multiple of 2^32
+  pub one-too-many : (recordOf (late .ledger) 0 .«total_cycles» .0 ≡ 10) × (sumOf sums.length 0 (late .closed) ≡ 9) × (late .answered ≡ 10)
   -- six stretches from one start to its stop, and still one cycle missed in all
   pub long-chain : (busy .answered ≡ 13) × (busy .last ≡ 14) × (busy .ledger .books .total .0 ≡ 13)
   pub long-chain-short : ChainShort (busy .last) (busy .times)

@@ -1,7 +1,7 @@
 -- Closed stretches at true times, what is measured of them, and how far the sums may be off.
 use Prim.Native.Nat.{ℕ, _+_, _-_, _%_, _^_, _≤_}
 use mathlib.Core.Path.{_≡_}
-use mathlib.Core.Bool.{Bool, cond, _&&_, _||_}
+use mathlib.Core.Bool.{Bool, true, cond, _&&_, _||_}
 use mathlib.Core.List.{List, [], _∷_}
 use lib.Dec.{eqb}
 use Rattle.usage.specs.Leaves.{elapsedCycles}
@@ -47,9 +47,10 @@ pub record Short (from to : ℕ) : Type 0 where
   pub order : from ≤ to
   pub within : to - from ≤ 2 ^ 32 - 2
 
-abbrev pub AllShort : List Stretch → Type 0
-AllShort [] = Unit {0}
-AllShort (s ∷ rest) = Short (s .from) (s .to) × AllShort rest
+-- a thread's tracked stretches; what others do is not asked
+abbrev pub AllShort : ℕ → List Stretch → Type 0
+AllShort i [] = Unit {0}
+AllShort i (s ∷ rest) = (s .tracked && eqb (s .thread) i ≡ true → Short (s .from) (s .to)) × AllShort i rest
 
 -- the stretches of one start to its stop, by their times, the last first
 unfoldable pub chainOf : (ℕ → ℕ → ℕ) → ℕ → List ℕ → ℕ

@@ -213,6 +213,7 @@ fn reopened(books: Books, usage: ThreadUsage, now: u32, thread: u32, on: bool) -
 }
 
 // The core of an operation: it gets the one record concerned and gives it back, at the same cost for any number of threads.
+// It makes no test of its own: whoever calls it has made those of `operate`, and has the stamp from `stamp_of`.
 pub fn enter(books: Books, usage: ThreadUsage, now: u32, operation: Operation) -> Entered
     ensures { λ r. ⌜ r ≡ enterOf books usage now operation ⌝ }
 {

@@ -1,6 +1,6 @@
 -- The timer's leaves, by 01's "Leaf formulas": each leaf's tests in 01's order, then its answer.
 use Prim.Native.Nat.{ℕ, _+_, _-_, _*_, _/_}
-use mathlib.Core.Bool.{Bool, true, false, cond, _||_}
+use mathlib.Core.Bool.{Bool, cond, _||_}
 use mathlib.Core.List.{List, [], _∷_}
 use lib.Dec.{ltb, leb, eqb}
 use Rattle.error.specs.declared.Refusal.{Refusal}

@@ -1,6 +1,6 @@
 -- Flags and thread records as C hands them over: plain numbers.
 use Prim.Native.Nat.{ℕ}
-use mathlib.Core.Bool.{Bool, true, false, cond, not}
+use mathlib.Core.Bool.{Bool, cond, not}
 use lib.Dec.{eqb}
 use Rattle.usage.specs.declared.ThreadUsage.{ThreadUsage}
 

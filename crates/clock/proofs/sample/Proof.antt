@@ -1,7 +1,6 @@
 -- `sample` answers by its definition: three tests, then the readings.
-use mathlib.Core.Path.{_∙_, sym, ap}
+use mathlib.Core.Path.{_∙_, sym}
 use native.Mathlib.Omega.{arith}
-use Rattle.clock.specs.declared.Sampled.the-variants as S
 use Rattle.clock.proofs.Outcomes as outcome
 use borrow.Author.Needs.{needs}
 use Rattle.clock.proofs.sample.Statement.{statement}

@@ -1,7 +1,6 @@
 -- `enter` hands each operation to its own function.
 use mathlib.Core.Path.{_∙_, sym, ap}
-use Rattle.ledger.specs.Entries.{enterOf, openOf, entered}
-use Rattle.ledger.proofs.Outcomes as outcome
+use Rattle.ledger.specs.Entries.{enterOf}
 use borrow.Author.Needs.{needs}
 use Rattle.ledger.proofs.enter.Statement.{statement}
 use Rattle.ledger.proofs.enter.Tie as tie

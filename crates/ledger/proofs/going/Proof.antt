@@ -1,6 +1,5 @@
 -- `going` picks the thread that goes.
 use borrow.Author.Tests.{eq-eqb, ne-eqb}
-use borrow.Author.Needs.{needs}
 use Rattle.ledger.proofs.going.Statement.{statement}
 use Rattle.ledger.proofs.going.Tie as tie
 

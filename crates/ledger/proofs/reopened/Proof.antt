@@ -1,6 +1,6 @@
 -- `reopened` closes under the old flag, alters it, and opens with the same stamp.
-use mathlib.Core.Path.{_∙_, sym, ap}
-use Rattle.ledger.specs.Entries.{entered, openOf, closeOf, reopenOf, altered, withChange, onward}
+use mathlib.Core.Path.{_∙_, ap}
+use Rattle.ledger.specs.Entries.{entered, openOf, reopenOf, altered, withChange, onward}
 use Rattle.ledger.proofs.Outcomes as outcome
 use borrow.Author.Needs.{needs}
 use Rattle.ledger.proofs.reopened.Statement.{statement}

@@ -1,6 +1,6 @@
 -- `switched` closes and opens with one stamp.
-use mathlib.Core.Path.{_∙_, sym, ap}
-use Rattle.ledger.specs.Entries.{entered, openOf, stopOf, switchOf, onward}
+use mathlib.Core.Path.{_∙_, ap}
+use Rattle.ledger.specs.Entries.{entered, openOf, switchOf, onward}
 use Rattle.ledger.proofs.Outcomes as outcome
 use borrow.Author.Needs.{needs}
 use Rattle.ledger.proofs.switched.Statement.{statement}

@@ -1,6 +1,5 @@
 -- `average_cycles` answers by its definition.
 use mathlib.Core.Path.{sym}
-use native.Mathlib.Omega.{arith}
 use Rattle.usage.proofs.Outcomes as outcome
 use borrow.Author.Needs.{needs}
 use Rattle.usage.proofs.average_cycles.Statement.{statement}

@@ -1,7 +1,6 @@
 -- `stop_decide` answers by its definition.
 use mathlib.Core.Path.{sym}
 use Rattle.usage.proofs.Outcomes as outcome
-use borrow.Author.Needs.{needs}
 use Rattle.usage.proofs.stop_decide.Statement.{statement}
 use Rattle.usage.proofs.stop_decide.Tie as tie
 

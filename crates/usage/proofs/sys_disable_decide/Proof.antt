@@ -1,6 +1,5 @@
 -- `sys_disable_decide` answers by its definition.
 use borrow.Author.Tests.{not-true, not-false}
-use borrow.Author.Needs.{needs}
 use Rattle.usage.proofs.sys_disable_decide.Statement.{statement}
 use Rattle.usage.proofs.sys_disable_decide.Tie as tie
 

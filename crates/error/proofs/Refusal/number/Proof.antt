@@ -1,6 +1,5 @@
 -- `Refusal::number` gives 01's number of each reason.
 use mathlib.Core.Path.{_≡_, sym, ap}
-use lib.IntN.{ℤ}
 use borrow.Author.Needs.{needs}
 use Rattle.error.specs.Numbers.{numberOf}
 use Rattle.error.specs.declared.Refusal.{Refusal}

@@ -87,6 +87,7 @@ use Rattle.ledger.proofs.Reported.number.Reads as ledger-Reported-number
 use Rattle.ledger.proofs.Reported.total.Reads as ledger-Reported-total
 use Rattle.ledger.proofs.Reported.average.Reads as ledger-Reported-average
 use Rattle.ledger.proofs.fresh.Reads as ledger-fresh
+use Rattle.trace.proofs.decode.Reads as trace-decode
 use Rattle.tickclock.proofs.thread.usage_enable_number.Reads as usage-enable-number
 use Rattle.tickclock.proofs.thread.usage_enable_track_usage.Reads as usage-enable-track-usage
 use Rattle.tickclock.proofs.thread.usage_enable_total_cycles.Reads as usage-enable-total-cycles
@@ -340,6 +341,9 @@ ledger-outcomes = (
   once _,
   once _,
 )
+
+pub trace-outcomes : OneOutcome trace-decode.Post
+trace-outcomes = once _
 
 pub tickclock-outcomes :
     OneOutcome usage-enable-number.Post ×

@@ -1,5 +1,4 @@
 -- `decode` tests that sixteen bytes are left, and decodes them.
-use mathlib.Core.Path.{_∙_}
 use native.Mathlib.Omega.{arith}
 use Rattle.trace.proofs.Outcomes as outcome
 use borrow.Author.Needs.{needs}

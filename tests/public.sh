@@ -1,5 +1,6 @@
 #!/bin/sh
-# Every public function has an ensures, demands nothing of its caller, and stands in the list of outcomes.
+# Every public function of a library has an ensures, demands nothing of its caller, and stands in the list of outcomes.
+# Programs have no lib.rt and nothing that others can call; docs/CONTRACTS.md lists their exceptions.
 set -eu
 cd "$(dirname "$0")/.."
 listed=crates/demands/proofs/Outcomes.antt

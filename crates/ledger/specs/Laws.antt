@@ -1,4 +1,4 @@
--- What an accepted operation does to the books and to the record that it concerns, field by field.
+-- The laws of every operation: what it does to the books and to each record, and exactly when it is refused.
 use Prim.Native.Nat.{ℕ, _+_, _<_}
 use mathlib.Core.Path.{_≡_}
 use mathlib.Core.Bool.{Bool, true, false, cond, not, _&&_, _||_}

@@ -5,6 +5,7 @@ use mathlib.Core.Bool.{Bool, true, false, _&&_}
 use native.Mathlib.Omega.{arith}
 use borrow.Author.Tests.{le-leb, lt-leb, le-ltb, lt-ltb, leb-true, leb-false, eq-eqb, ne-eqb}
 use lib.Dec.{leb}
+use Rattle.error.proofs.Tests.{clash}
 use Rattle.error.specs.declared.Refusal.{Refusal}
 use Rattle.error.specs.declared.Refusal.the-variants.{Invalid, Again, Overflow}
 use Rattle.error.specs.Numbers.{max32, max64}
@@ -109,14 +110,14 @@ module _ (period : ℕ) {answer : Ran} (p : answer ≡ startedOf period) where
     where
       by-test : (good : Bool) → goodPeriod period ≡ good → (goodPeriod period ≡ true) × (counter ≡ fresh period)
       by-test true e = (e, cc (started-good period e))
-      by-test false e = let clash : _≡_ {A = ℕ} 0 1 = cc (started-bad period e) in absurd (omega arith)
+      by-test false e = clash (cc (started-bad period e))
 
   pub start-refused : (tick : ℕ) {why handed-on : Refusal} → answer ≡ R.Refused why → handed-on ≡ ranWhy answer → U.Refused handed-on ≡ setUp period tick
   unfolding ranWhy
   start-refused tick {why} {handed-on} q r = by-test (goodPeriod period) refl
     where
       by-test : (good : Bool) → goodPeriod period ≡ good → U.Refused handed-on ≡ setUp period tick
-      by-test true e = let clash : _≡_ {A = ℕ} 0 1 = cc (started-good period e) in absurd (omega arith)
+      by-test true e = clash (cc (started-good period e))
       by-test false e =
           let invalid : answer ≡ R.Refused Invalid = p ∙ started-bad period e in
           ap U.Refused (r ∙ ap ranWhy invalid) ∙ sym (bad-period period tick e)

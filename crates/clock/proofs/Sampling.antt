@@ -4,6 +4,7 @@ use mathlib.Core.Path.{_≡_, refl, sym, _∙_}
 use mathlib.Core.Bool.{Bool, true, false, cond, false≢true}
 use native.Mathlib.Omega.{arith}
 use native.Mathlib.Nat.{one-mul, zero-mul}
+use Rattle.error.proofs.Tests.{clash}
 use Rattle.error.specs.declared.Refusal.{Refusal}
 use Rattle.error.specs.Numbers.{max64}
 use Rattle.systick.specs.Leaves.{elapsedDecide}
@@ -29,13 +30,13 @@ use Rattle.clock.proofs.Owed.{Owes, short}
 
 -- an answer that is accepted is not refused, and holds what it was accepted with
 pub never : {answer : Ran} {counter : Counter} {why : Refusal} → answer ≡ R.Accepted counter → answer ≡ R.Refused why → ⊥
-never p q = let clash : _≡_ {A = ℕ} 0 1 = cc in omega arith
+never p q = clash (cc)
 
 pub ran-is : {answer : Ran} {one other : Counter} → answer ≡ R.Accepted one → answer ≡ R.Accepted other → one ≡ other
 ran-is p q = cc
 
 pub never-undecided : {answer : ElapsedDecide} {d : ElapsedDecideResult} {why : Refusal} → answer ≡ D.Accepted d → answer ≡ D.Refused why → ⊥
-never-undecided p q = let clash : _≡_ {A = ℕ} 0 1 = cc in omega arith
+never-undecided p q = clash (cc)
 
 pub decided-is : {answer : ElapsedDecide} {one other : ElapsedDecideResult} → answer ≡ D.Accepted one → answer ≡ D.Accepted other → one ≡ other
 decided-is p q = cc

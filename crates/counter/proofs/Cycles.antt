@@ -6,6 +6,7 @@ use native.Mathlib.Omega.{arith}
 use native.Mathlib.Nat.{add-mul, one-mul, zero-mul, add-zero, div-eq-of-lt-le, div-add-mod'}
 use borrow.Author.Tests.{eqb-true, eqb-false, lt-ltb}
 use lib.Dec.{ltb, eqb}
+use Rattle.error.proofs.Tests.{or-none}
 use Rattle.counter.specs.declared.Counter.{Counter}
 use Rattle.counter.specs.Cycle.{cycle, runN, wraps, cleared}
 use Rattle.counter.specs.Valid.{Valid}
@@ -16,10 +17,6 @@ pub record After (l n w : ℕ) (c d : Counter) : Type 0 where
   pub total : d .cycles .0 ≡ c .cycles .0 + n
   pub value : d .value + n ≡ c .value + w * l
   pub flag : d .flag ≡ c .flag || ltb 0 w
-
-or-false : (b : Bool) → b ≡ b || false
-or-false true = refl
-or-false false = refl
 
 or-true : (b : Bool) → b || true ≡ true
 or-true true = refl
@@ -42,12 +39,12 @@ more l n w c d a false e =
       valid = record { period = a .valid .period; least = a .valid .least; most = a .valid .most; low = rw e (omega arith); high = rw e (omega arith) };
       total = omega arith;
       value = rw (e, add-zero) (omega arith);
-      flag = rw (e, add-zero) (sym (or-false _) ∙ a .flag);
+      flag = rw (e, add-zero) (sym (or-none _) ∙ a .flag);
     }
 
 pub after : (l n : ℕ) (c : Counter) → Valid l c → After l n (wraps n c) c (runN n c)
 unfolding runN wraps
-after l zero c h = record { valid = h; total = omega arith; value = omega (arith, zero-mul l); flag = or-false _ }
+after l zero c h = record { valid = h; total = omega arith; value = omega (arith, zero-mul l); flag = or-none _ }
 after l (suc n) c h = more l n (wraps n c) c (runN n c) (after l n c h) _ refl
 
 -- reading the flag leaves a counter in range

@@ -4,9 +4,9 @@ use mathlib.Core.Path.{_≡_, refl, ap, subst, _∙_}
 use mathlib.Core.Bool.{Bool, true, false}
 use mathlib.Core.Logic.{_⊎_, inl, inr, ⊎-elim}
 use native.Mathlib.Nat.{mul-div-cancel, eq-zero-or-pos}
-use native.Mathlib.Omega.{arith}
 use lib.Dec.{eqb}
 use borrow.Author.Tests.{eqb-true, eqb-false}
+use Rattle.error.proofs.Tests.{clash}
 use Rattle.error.specs.Numbers.{max32, max64}
 use Rattle.error.specs.declared.Refusal.the-variants.{Invalid}
 use Rattle.units.specs.declared.Cycles.{Cycles}
@@ -144,4 +144,4 @@ round-trip ticks tick cycles p e = by-case (either (ticks .0 * tick) max64)
         subst (λ (c : Cycles). cyclesToTicks c tick ≡ T.Accepted ticks) product
         (timer.ticks-given (record { 0 = ticks .0 * tick }) tick p ∙
         ap (λ (n : ℕ). T.Accepted (record { 0 = n })) (mul-div-cancel (ticks .0) p))
-    by-case (inr h) = let z : _≡_ {A = ℕ} 0 1 = cc (timer.product-above ticks tick h) in absurd (omega arith)
+    by-case (inr h) = clash (cc (timer.product-above ticks tick h))

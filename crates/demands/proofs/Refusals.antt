@@ -1,9 +1,8 @@
 -- Counter and clock refuse by their rows.
-use Prim.Native.Nat.{ℕ}
 use mathlib.Core.Path.{_≡_, ap}
 use mathlib.Core.Bool.{cond, not}
 use mathlib.Core.List.{List, _∷_}
-use native.Mathlib.Omega.{arith}
+use Rattle.error.proofs.Tests.{clash}
 use Rattle.error.specs.declared.Refusal.the-variants.{Invalid}
 use Rattle.error.specs.InOrder.{Row, inOrder}
 use Rattle.error.proofs.Ordered.{accepts, refuses, accepted-only, refused-only, carried}
@@ -28,10 +27,6 @@ module _ {Reason Answer : Type 0} (rows : List (Row Reason)) (refuse : Reason �
     accepted = (accepted-only refuse answer apart rows, accepts refuse answer rows);
   }
 
--- two cases of an enum are never equal
-absurdly : _≡_ {A = ℕ} 0 1 → ⊥
-absurdly e = omega arith
-
 -- the leaf's tests, carried over into the announcement's answer
 announce-rows : (t : Timer) → announceOf t ≡ inOrder ((not (wellFormed t), Invalid) ∷ announceTests (t .clock .count) (t .clock .announced) (t .clock .overflow) (t .clock .tick)) A.Refused (A.Accepted (announcementFrom t (announceValue (t .clock .count) (t .clock .announced) (t .clock .overflow) (t .clock .tick))))
 unfolding announceOf announcedBy announceDecide
@@ -43,10 +38,10 @@ announce-rows t =
 pub timer-refusals : TimerRefusals
 unfolding startedOf ranOf valueOf setUp sampleOf
 timer-refusals = record {
-  started = λ period. by-rows _ R.Refused _ (λ why e. absurdly (cc)) (λ r s e. cc);
-  run = λ c n. by-rows _ R.Refused _ (λ why e. absurdly (cc)) (λ r s e. cc);
-  value = λ raw period. by-rows _ Read.Refused _ (λ why e. absurdly (cc)) (λ r s e. cc);
-  set-up = λ period tick. by-rows _ U.Refused _ (λ why e. absurdly (cc)) (λ r s e. cc);
-  sample = λ t g. by-rows _ S.Refused _ (λ why e. absurdly (cc)) (λ r s e. cc);
-  announce = λ t. rw (announce-rows t) (by-rows _ A.Refused _ (λ why e. absurdly (cc)) (λ r s e. cc));
+  started = λ period. by-rows _ R.Refused _ (λ why e. clash (cc)) (λ r s e. cc);
+  run = λ c n. by-rows _ R.Refused _ (λ why e. clash (cc)) (λ r s e. cc);
+  value = λ raw period. by-rows _ Read.Refused _ (λ why e. clash (cc)) (λ r s e. cc);
+  set-up = λ period tick. by-rows _ U.Refused _ (λ why e. clash (cc)) (λ r s e. cc);
+  sample = λ t g. by-rows _ S.Refused _ (λ why e. clash (cc)) (λ r s e. cc);
+  announce = λ t. rw (announce-rows t) (by-rows _ A.Refused _ (λ why e. clash (cc)) (λ r s e. cc));
 }

@@ -5,6 +5,7 @@ use mathlib.Core.Bool.{Bool, true, false}
 use mathlib.Core.Logic.{_⊎_, inl, inr}
 use native.Mathlib.Omega.{arith}
 use lib.Signed.{mag}
+use Rattle.error.proofs.Tests.{clash}
 use Rattle.error.specs.Numbers.{ok, minus, max32, max64}
 use Rattle.units.specs.declared.Cycles.{Cycles}
 use Rattle.usage.specs.Leaves.{enabled, accumulated, elapsedCycles, sysEnableDecide, sysDisableDecide, startDecide, stopDecide}
@@ -32,7 +33,7 @@ enable-clauses u (inl on) =
       code = refl;
       tracked = on;
       total = refl;
-      opened = λ off. let clash : _≡_ {A = ℕ} 0 1 = cc in absurd (omega arith);
+      opened = λ off. clash (cc);
       windows-kept = λ again. refl;
     })
 enable-clauses u (inr (off, room)) =
@@ -42,7 +43,7 @@ enable-clauses u (inr (off, room)) =
       tracked = refl;
       total = refl;
       opened = λ again. refl;
-      windows-kept = λ on. let clash : _≡_ {A = ℕ} 0 1 = cc in absurd (omega arith);
+      windows-kept = λ on. clash (cc);
     })
 
 full : (u : ThreadUsage) → u .«track_usage» ≡ false → u .«num_windows» ≡ max32 → enable u ≡ record { code = minus 139; usage = u }
@@ -108,11 +109,11 @@ disable-twice true = (refl, refl, refl)
 disable-twice false = (refl, refl, refl)
 
 only-nonzero : (u0 : ℕ) → stopDecide u0 ≡ Accumulate → u0 ≡ 0 → ⊥
-only-nonzero u0 e z = let clash : _≡_ {A = ℕ} 0 1 = cc (thread.skipped u0 z) in omega arith
+only-nonzero u0 e z = clash (cc (thread.skipped u0 z))
 
 only-tracked : (flag : Bool) → startDecide flag ≡ RecordStart → flag ≡ true
 only-tracked true e = refl
-only-tracked false e = let clash : _≡_ {A = ℕ} 0 1 = cc in absurd (omega arith)
+only-tracked false e = clash (cc)
 
 there-and-back : (u : ThreadUsage) → u .«track_usage» ≡ false → (u .«num_windows» ≡ max32 → ⊥) → disable (enable u .usage) ≡ record { code = ok; usage = record { «track_usage» = false; «total_cycles» = u .«total_cycles»; «num_windows» = u .«num_windows» + 1 } }
 unfolding outcomeOf changedSays kept

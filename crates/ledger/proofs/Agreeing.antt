@@ -9,6 +9,7 @@ use lib.ListN.{length, getD, set, length-set, replicate, length-replicate}
 use lib.Seq.{getD-set-same, getD-set-other}
 use lib.Dec.{eqb}
 use borrow.Author.Tests.{eqb-true, eqb-false, eq-eqb, ne-eqb, lt-leb, leb-false}
+use Rattle.error.proofs.Tests.{clash}
 use Rattle.error.specs.declared.Refusal.{Refusal}
 use Rattle.error.proofs.Ordered.{by-outcome}
 use Rattle.usage.specs.declared.ThreadUsage.{ThreadUsage}
@@ -104,7 +105,7 @@ sum-after w time j o false = sym (add-zero _)
 -- the clock's stamp against the open stretch's
 cycles-are : (slots : ℕ) (b : Books) (o : Open) (time : ℕ) → Marked slots b o → isNone o ≡ false → elapsedCycles (stampOf time) (b .stamp) ≡ added o time
 unfolding added
-cycles-are slots b none time m e = absurd (let z : _≡_ {A = ℕ} 0 1 = cc in omega arith)
+cycles-are slots b none time m e = clash (cc)
 cycles-are slots b (since i from) time m e = ap (elapsedCycles (stampOf time)) (m .0)
 
 module _ (slots : ℕ) (w : World) (k : Kept slots w) where
@@ -123,28 +124,28 @@ module _ (slots : ℕ) (w : World) (k : Kept slots w) where
   -- and then the record concerned is that of the thread whose stretch is open
   and-true : (x y : Bool) → x && y ≡ true → y ≡ true
   and-true true y e = e
-  and-true false y e = absurd (let z : _≡_ {A = ℕ} 0 1 = cc in omega arith)
+  and-true false y e = clash (cc)
 
   of-running : (o : Open) → Marked slots b o → not (isNone o) ≡ true → (i : ℕ) → isOf o (cond (eqb (b .stamp) 0) i (b .running)) ≡ true
-  of-running none m e i = absurd (let z : _≡_ {A = ℕ} 0 1 = cc in omega arith)
+  of-running none m e i = clash (cc)
   of-running (since j from) m e i = simp (ne-eqb (b .stamp) 0 (λ z. stamped from (sym (m .0) ∙ z)), m .1) (eq-eqb j j refl)
 
   on-concerned : (op : Operation) → closesNow w op ≡ true → isOf (w .stretch) (concerned b op) ≡ true
   unfolding closesNow concerned
-  on-concerned (O.Start i) e = absurd (let z : _≡_ {A = ℕ} 0 1 = cc in omega arith)
+  on-concerned (O.Start i) e = clash (cc)
   on-concerned (O.Switch i) e = of-running (w .stretch) (k .mark) e i
   on-concerned O.Stop e = of-running (w .stretch) (k .mark) e 0
   on-concerned (O.Enable i) e = and-true (not (w .tracked i)) _ e
   on-concerned (O.Disable i) e = and-true (w .tracked i) _ e
 
   not-none : (o : Open) (i : ℕ) → isOf o i ≡ true → isNone o ≡ false
-  not-none none i e = absurd (let z : _≡_ {A = ℕ} 0 1 = cc in omega arith)
+  not-none none i e = clash (cc)
   not-none (since j from) i e = refl
 
   -- the charge of a stretch is that of its own thread, and of no other
   owned : (o : Open) (at j : ℕ) → isOf o at ≡ true → owner o (w .tracked) j ≡ w .tracked at && eqb at j
   unfolding owner
-  owned none at j e = absurd (let z : _≡_ {A = ℕ} 0 1 = cc in omega arith)
+  owned none at j e = clash (cc)
   owned (since i from) at j e = rw (eqb-true i at e)
 
   -- the flag of the thread concerned, and of every other, as the onlooker keeps it
@@ -228,7 +229,7 @@ module _ (slots : ℕ) (w : World) (k : Kept slots w) where
     same-mark (since i from) s r m = (s ∙ m .0, r ∙ m .1, m .2)
 
     of-thread : (o : Open) (i : ℕ) → isOf o i ≡ true → Marked slots b o → (b .running ≡ i) × (i < slots)
-    of-thread none i q m = absurd (let z : _≡_ {A = ℕ} 0 1 = cc in omega arith)
+    of-thread none i q m = clash (cc)
     of-thread (since j from) i q m = let same = eqb-true j i q in (m .1 ∙ same, subst (λ (n : ℕ). n < slots) same (m .2))
 
     -- enable and disable: the mark moves on where a stretch is closed and opened, and stays elsewhere
@@ -256,7 +257,7 @@ module _ (slots : ℕ) (w : World) (k : Kept slots w) where
   chain-after op time e law false true q = rw (k .chain, cycles-of op time e law true q) (ap (λ (n : ℕ). chainOf measured (w .last) (w .times) + n) (from-last (w .stretch) (not-none (w .stretch) _ (on-concerned op q)) (k .follows)))
     where
       from-last : (o : Open) → isNone o ≡ false → Follows o (w .last) → added o time ≡ measured (w .last) time
-      from-last none n f = absurd (let z : _≡_ {A = ℕ} 0 1 = cc in omega arith)
+      from-last none n f = clash (cc)
       from-last (since i from) n f = ap (λ (t : ℕ). measured t time) f
   chain-after op time e law false false q = rw (k .chain, cycles-of op time e law false q) (add-zero _)
 

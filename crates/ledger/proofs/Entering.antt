@@ -3,10 +3,10 @@ use Prim.Native.Nat.{ℕ, _+_}
 use mathlib.Core.Path.{_≡_, refl, sym, ap, _∙_}
 use mathlib.Core.Bool.{Bool, true, false, cond, not, _&&_, Bool·beq}
 use mathlib.Core.List.{[], _∷_}
-use native.Mathlib.Omega.{arith}
 use native.Mathlib.Nat.{add-zero}
 use lib.Dec.{ltb, eqb}
 use borrow.Author.Tests.{eqb-true}
+use Rattle.error.proofs.Tests.{clash, nothing-added}
 use Rattle.error.specs.declared.Refusal.{Refusal}
 use Rattle.error.specs.declared.Refusal.the-variants.{Overflow}
 use Rattle.error.specs.Numbers.{max64}
@@ -41,9 +41,6 @@ pub record ChargeIs (u : ThreadUsage) (d : ℕ) (v : ThreadUsage) : Type 0 where
   pub total : v .«total_cycles» .0 ≡ u .«total_cycles» .0 + cond (u .«track_usage») d 0
   pub flag : v .«track_usage» ≡ u .«track_usage»
   pub windows : v .«num_windows» ≡ u .«num_windows»
-
-clash : {P : Type 0} → _≡_ {A = ℕ} 0 1 → P
-clash e = absurd (omega arith)
 
 charge-is : (u : ThreadUsage) (d : ℕ) (v : ThreadUsage) → charged u d ≡ C.Accepted v → ChargeIs u d v
 unfolding charged accumulated
@@ -100,16 +97,12 @@ idle-is : (b : Books) (u : ThreadUsage) (now : ℕ) (op : Operation) → closes 
 idle-is b u now op c f w s r = record {
   cycles = rw c refl;
   machine = sym (add-zero _);
-  total = by-flag (u .«track_usage»);
+  total = nothing-added _ (u .«track_usage»);
   flag = sym f;
   windows = rw w (sym (add-zero _));
   stamp = sym s;
   running = sym r;
 }
-  where
-    by-flag : (on : Bool) → u .«total_cycles» .0 ≡ u .«total_cycles» .0 + cond on 0 0
-    by-flag true = sym (add-zero _)
-    by-flag false = sym (add-zero _)
 
 stop-is : (b : Books) (u : ThreadUsage) (now : ℕ) (e : Entry) → stopOf b u now ≡ E.Accepted e → EntryIs b u now O.Stop e
 unfolding stopOf closes flagAfter rises stampAfter runningAfter
@@ -187,16 +180,12 @@ module _ (b : Books) (u : ThreadUsage) (now i : ℕ) (on : Bool) (op : Operation
       (record {
         cycles = rw none refl;
         machine = sym (add-zero _);
-        total = a .total ∙ nothing (u .«track_usage»);
+        total = a .total ∙ nothing-added _ (u .«track_usage»);
         flag = a .flag ∙ sym flagging;
         windows = rw rising (a .windows);
         stamp = sym (stamping ∙ simp none);
         running = sym staying;
       }))
-    where
-      nothing : (flag : Bool) → u .«total_cycles» .0 ≡ u .«total_cycles» .0 + cond flag 0 0
-      nothing true = sym (add-zero _)
-      nothing false = sym (add-zero _)
 
   reopened : Bool·beq (u .«track_usage») on ≡ false → runs b i ≡ true → reopenOf b u now i on ≡ E.Accepted e → EntryIs b u now op e
   unfolding reopenOf
@@ -245,11 +234,7 @@ pub entry-is : (b : Books) (u : ThreadUsage) (now : ℕ) (op : Operation) (e : E
 unfolding enterOf closes flagAfter rises stampAfter runningAfter
 entry-is b u now (O.Start i) e q =
     let is : record { cycles = 0; books = openOf b now i; usage = u } ≡ e = cc in
-    rw (← is) (record { cycles = refl; machine = sym (add-zero _); total = nothing (u .«track_usage»); flag = refl; windows = sym (add-zero _); stamp = refl; running = refl })
-  where
-    nothing : (flag : Bool) → u .«total_cycles» .0 ≡ u .«total_cycles» .0 + cond flag 0 0
-    nothing true = sym (add-zero _)
-    nothing false = sym (add-zero _)
+    rw (← is) (record { cycles = refl; machine = sym (add-zero _); total = nothing-added _ (u .«track_usage»); flag = refl; windows = sym (add-zero _); stamp = refl; running = refl })
 entry-is b u now (O.Switch i) e q = switch-is b u now i e q
 entry-is b u now O.Stop e q = stop-is b u now e q
 entry-is b u now (O.Enable i) e q = alter-entry b u now i true (O.Enable i) (ap (λ (x : Bool). x && runs b i) (beq-true (u .«track_usage»))) refl refl refl refl e q

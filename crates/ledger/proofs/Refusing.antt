@@ -3,10 +3,10 @@ use Prim.Native.Nat.{ℕ, _+_}
 use mathlib.Core.Path.{_≡_, refl, ap, _∙_, subst}
 use mathlib.Core.Bool.{Bool, true, false, cond, not, _&&_, _||_, Bool·beq}
 use mathlib.Core.List.{[], _∷_}
-use native.Mathlib.Omega.{arith}
 use lib.IntN.{ℤ}
 use lib.ListN.{length}
 use lib.Dec.{ltb, leb, eqb}
+use Rattle.error.proofs.Tests.{clash, or-none}
 use Rattle.error.specs.declared.Refusal.the-variants.{Invalid, BadThread, Already, Overflow}
 use Rattle.error.specs.Numbers.{ok, max32, max64, numberOf}
 use Rattle.error.specs.InOrder.{inOrder}
@@ -135,11 +135,7 @@ module _ (b : Books) (u : ThreadUsage) (now : ℕ) where
   unfolding enterOf switchOf full closes rises
   entry-by (O.Start i) = kept _
   entry-by (O.Switch i) = onward-then _ false _ _ stop-by (λ e p. kept _)
-  entry-by O.Stop = subst (λ (t : Bool). EntryBy t (stopOf b u now)) (no-more (not (stopped b) && over)) stop-by
-    where
-      no-more : (x : Bool) → x ≡ x || false
-      no-more true = refl
-      no-more false = refl
+  entry-by O.Stop = subst (λ (t : Bool). EntryBy t (stopOf b u now)) (or-none (not (stopped b) && over)) stop-by
   entry-by (O.Enable i) = subst (λ (t : Bool). EntryBy t (alterOf b u now i true)) (as-one (u .«track_usage») (runs b i) over (eqb (u .«num_windows») max32)) (alter-by i true)
     where
       as-one : (f r o w : Bool) → cond (Bool·beq f true) false (cond r (o || ((not f && w) || false)) ((not f && w) || false)) ≡ ((not f && r) && o) || (not f && w)
@@ -157,9 +153,6 @@ module _ (b : Books) (u : ThreadUsage) (now : ℕ) where
       as-one true true false = refl
       as-one true false o = refl
 
-apart : _≡_ {A = ℕ} 0 1 → ⊥
-apart e = omega arith
-
 stored-number : (l : Ledger) (k : ℕ) (t : Bool) (x : Entered) → EntryBy t x → answerSays (storedIn l k x .answer) .number ≡ cond t (numberOf Overflow) ok
 unfolding storedIn EntryBy answerSays
 stored-number l k t (E.Accepted e) h = rw h refl
@@ -175,16 +168,16 @@ every-refusal l reading op =
 module _ (l : Ledger) (recorded : unrecorded (l .books) (length (l .threads)) ≡ false) where
   stored-fits : (k : ℕ) (t : Bool) (x : Entered) → EntryBy t x → storedIn l k x .answer ≡ A.Refused Invalid → ⊥
   unfolding storedIn EntryBy
-  stored-fits k t (E.Accepted e) fits q = apart (cc)
-  stored-fits k t (E.Refused why) fits q = let w = fits .0 in apart (cc)
+  stored-fits k t (E.Accepted e) fits q = clash (cc)
+  stored-fits k t (E.Refused why) fits q = let w = fits .0 in clash (cc)
 
   pub never-invalid : (reading : Cycles) (op : Operation) → operateOf l reading op .answer ≡ A.Refused Invalid → ⊥
   unfolding operateOf
   never-invalid reading op = rw recorded (by-test (past op (length (l .threads))) (busy (l .books) op) _ (stored-fits _ _ _ (entry-by (l .books) _ _ op)))
     where
       by-test : (t s : Bool) (o : Ledgered) → (o .answer ≡ A.Refused Invalid → ⊥) → cond t (refusedWith l BadThread) (cond s (refusedWith l Already) o) .answer ≡ A.Refused Invalid → ⊥
-      by-test true s o other q = apart (cc)
-      by-test false true o other q = apart (cc)
+      by-test true s o other q = clash (cc)
+      by-test false true o other q = clash (cc)
       by-test false false o other q = other q
 
   pub report-never-invalid : (i : ℕ) → reportOf l i ≡ R.Refused Invalid → ⊥
@@ -192,5 +185,5 @@ module _ (l : Ledger) (recorded : unrecorded (l .books) (length (l .threads)) �
   report-never-invalid i = rw recorded (by-test (leb (length (l .threads)) i) _)
     where
       by-test : (t : Bool) (r : ThreadReport) → cond t (R.Refused BadThread) (R.Accepted r) ≡ R.Refused Invalid → ⊥
-      by-test true r q = apart (cc)
-      by-test false r q = apart (cc)
+      by-test true r q = clash (cc)
+      by-test false r q = clash (cc)

@@ -7,6 +7,7 @@ use native.Mathlib.Omega.{arith}
 use lib.ListN.{getD}
 use lib.Dec.{eqb}
 use borrow.Author.Tests.{eqb-true, eqb-false, ne-eqb, ltb-false}
+use Rattle.error.proofs.Tests.{clash}
 use Rattle.error.proofs.Ordered.{by-outcome}
 use Rattle.counter.specs.Entries.{goodPeriod}
 use Rattle.trace.specs.declared.Fields.{Fields}
@@ -38,15 +39,15 @@ none-of used n u e = by-test (eqb n 0) refl (rw u at e)
   where
     by-test : (t : Bool) → eqb n 0 ≡ t → not false && not t ≡ false → n ≡ 0
     by-test true t q = eqb-true _ _ t
-    by-test false t q = absurd (let z : _≡_ {A = ℕ} 0 1 = cc in omega arith)
+    by-test false t q = clash (cc)
 
 or-false : (a b : Bool) → a || b ≡ false → (a ≡ false) × (b ≡ false)
-or-false true b e = absurd (let z : _≡_ {A = ℕ} 0 1 = cc in omega arith)
+or-false true b e = clash (cc)
 or-false false b e = (refl, e)
 
 not-false : (a : Bool) → not a ≡ false → a ≡ true
 not-false true e = refl
-not-false false e = absurd (let z : _≡_ {A = ℕ} 0 1 = cc in omega arith)
+not-false false e = clash (cc)
 
 -- what is unused is 0, each by itself
 record Unused (f : Fields) : Type 0 where
@@ -104,16 +105,16 @@ good-of (suc (suc (suc (suc (suc (suc (suc (suc zero)))))))) t z p q r h b = tt
 good-of (suc (suc (suc (suc (suc (suc (suc (suc (suc zero))))))))) t z p q r h b = both (goodPeriod p) (eqb q 0) refl (not-false _ b)
   where
     both : (g n : Bool) → eqb q 0 ≡ n → g && not n ≡ true → (g ≡ true) × (1 ≤ q)
-    both true true e c = absurd (let w : _≡_ {A = ℕ} 0 1 = cc in omega arith)
+    both true true e c = clash (cc)
     both true false e c = (refl, let d = eqb-false q 0 e in omega arith)
-    both false n e c = absurd (let w : _≡_ {A = ℕ} 0 1 = cc in omega arith)
+    both false n e c = clash (cc)
 good-of (suc (suc (suc (suc (suc (suc (suc (suc (suc (suc k)))))))))) t z p q r h b = absurd (omega arith)
 
 accepted : (f : Fields) (r : Record) → decodeFields f ≡ D.Accepted r → (f ≡ fieldsOf r) × Good r
 unfolding decodeFields
 accepted f r =
     by-outcome D.Refused (D.Accepted (recordOf f)) (λ (o : Decoded). o ≡ D.Accepted r → (f ≡ fieldsOf r) × Good r) (decodeTests f)
-    (λ why q. absurd (let w : _≡_ {A = ℕ} 0 1 = cc in omega arith))
+    (λ why q. clash (cc))
     (λ none q.
     let is : recordOf f ≡ r = cc in
     let known = ltb-false _ _ (none .0) in

@@ -10,14 +10,22 @@ cases:
 	rt check cases
 	sh tools/run.sh cases crates/cases/stdin
 
+# Replays a trace; with no TRACE, 01's printed case. Only its lines go to standard output.
+TRACE = traces/printed.trace
+replay:
+	@rt check replay >&2
+	@sh tools/replay.sh "$(TRACE)"
+
 test:
 	rt fmt --check
 	sh tests/public.sh
 	sh tests/units.sh
 	sh tests/c/check.sh
+	rt check replay
+	sh tests/replay.sh
 	rt ci
 
 clean:
 	rm -rf target
 
-.PHONY: all cases test clean
+.PHONY: all cases replay test clean

@@ -1,5 +1,6 @@
 #!/bin/sh
-# Every public function of a library has an ensures, demands nothing of its caller, and stands in the list of outcomes.
+# Every public function of a library has an ensures, demands nothing of its caller, and stands in the list of outcomes,
+# with its buffer where it is lent one to write in.
 # Programs have no lib.rt and nothing that others can call; docs/CONTRACTS.md lists their exceptions.
 set -eu
 cd "$(dirname "$0")/.."
@@ -18,19 +19,20 @@ for lib in crates/*/src/lib.rt; do
             /^ *pub (extern "C" )?fn / {
                 name = $0; sub(/.*fn /, "", name); sub(/[^A-Za-z0-9_].*/, "", name)
                 prefix = module == "lib" ? "" : module "."
-                asked = 0; promised = 0; open = 1
+                asked = 0; promised = 0; open = 1; lent = $0 ~ /&mut /
             }
             open && /requires/ { asked = 1 }
             open && /ensures/ { promised = 1 }
-            open && /\{ *$/ { print prefix type name, asked, promised; open = 0 }
+            open && /\{ *$/ { print prefix type name, asked, promised, lent; open = 0 }
         ' "$file")
         [ -n "$functions" ] || continue
-        while read -r name asked promised; do
+        while read -r name asked promised lent; do
             count=$((count + 1))
             [ "$asked" = 0 ] || { echo "$file: $name demands something of its caller"; bad=1; }
             [ "$promised" = 1 ] || { echo "$file: $name has no ensures"; bad=1; }
             as=$(sed -n "s/^use Rattle\.$crate\.proofs\.$name\.Reads as //p" "$listed")
-            grep -q "OneOutcome $as\.Post" "$listed" && [ -n "$as" ] || { echo "$listed lacks $crate $name"; bad=1; }
+            if [ "$lent" = 1 ]; then outcome='OneOutcomeLent (.*)'; else outcome=OneOutcome; fi
+            grep -q "$outcome $as\.Post" "$listed" && [ -n "$as" ] || { echo "$listed lacks $crate $name"; bad=1; }
         done <<END
 $functions
 END

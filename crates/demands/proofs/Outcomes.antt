@@ -88,6 +88,7 @@ use Rattle.ledger.proofs.Reported.total.Reads as ledger-Reported-total
 use Rattle.ledger.proofs.Reported.average.Reads as ledger-Reported-average
 use Rattle.ledger.proofs.fresh.Reads as ledger-fresh
 use Rattle.trace.proofs.decode.Reads as trace-decode
+use Rattle.trace.proofs.Decoded.number.Reads as trace-Decoded-number
 use Rattle.tickclock.proofs.thread.usage_enable_number.Reads as usage-enable-number
 use Rattle.tickclock.proofs.thread.usage_enable_track_usage.Reads as usage-enable-track-usage
 use Rattle.tickclock.proofs.thread.usage_enable_total_cycles.Reads as usage-enable-total-cycles
@@ -136,7 +137,26 @@ use Rattle.tickclock.proofs.timer.systick_announce_decide_new_cycle_count.Reads
 use Rattle.tickclock.proofs.timer.systick_announce_decide_new_announced_cycles.Reads as systick-announce-decide-new-announced-cycles
 use Rattle.tickclock.proofs.timer.counter_value_number.Reads as counter-value-number
 use Rattle.tickclock.proofs.timer.counter_value_value.Reads as counter-value-value
-use Rattle.demands.specs.Outcome.{OneOutcome}
+use Rattle.machine.proofs.Reason.refusal.Reads as machine-Reason-refusal
+use Rattle.machine.proofs.Outcome.number.Reads as machine-Outcome-number
+use Rattle.machine.proofs.Outcome.x.Reads as machine-Outcome-x
+use Rattle.machine.proofs.Outcome.y.Reads as machine-Outcome-y
+use Rattle.machine.proofs.core_step.Reads as machine-core-step
+use Rattle.machine.proofs.slot.Reads as machine-slot
+use Rattle.machine.proofs.Machine.core.Reads as machine-Machine-core
+use Rattle.machine.proofs.step.Reads as machine-step
+use Rattle.machine.proofs.fresh.Reads as machine-fresh
+use Rattle.lines.proofs.Written.number.Reads as lines-Written-number
+use Rattle.lines.proofs.Written.end.Reads as lines-Written-end
+use Rattle.lines.proofs.records.room_for.Reads as lines-records-room-for
+use Rattle.lines.proofs.put_line.Reads as lines-put-line
+use Rattle.lines.proofs.put_end.Reads as lines-put-end
+use Rattle.lines.proofs.put_tail.Reads as lines-put-tail
+use Rattle.lines.proofs.put_input.Reads as lines-put-input
+use Rattle.lines.proofs.records.replay.Reads as lines-records-replay
+use Rattle.lines.proofs.records.put_part.Reads as lines-records-put-part
+use Rattle.ledger.proofs.nothing_booked.Reads as ledger-nothing-booked
+use Rattle.demands.specs.Outcome.{OneOutcome, OneOutcomeLent}
 
 -- a contract that says what the answer is, from the arguments, allows that one alone
 once :
@@ -146,6 +166,14 @@ once :
     other ≡ answer lives args →
     one ≡ other
 once answer lives args one other here there p q = p ∙ sym q
+
+once-lent :
+    {Lives Args Answer Exit Held : Type 0} (held : Exit → Held) (answer : Lives → Args → Answer) (left : Lives → Args → Held) →
+    (lives : Lives) (args : Args) (one other : Answer) (here there : Exit) →
+    (one ≡ answer lives args) × (held here ≡ left lives args) →
+    (other ≡ answer lives args) × (held there ≡ left lives args) →
+    (one ≡ other) × (held here ≡ held there)
+once-lent held answer left lives args one other here there p q = (p .0 ∙ sym (q .0), p .1 ∙ sym (q .1))
 
 pub error-outcomes : OneOutcome error-Refusal-number.Post
 error-outcomes = once _
@@ -307,6 +335,7 @@ clock-outcomes = (
 )
 
 pub ledger-outcomes :
+    OneOutcome ledger-nothing-booked.Post ×
     OneOutcome ledger-stamp-of.Post ×
     OneOutcome ledger-runs.Post ×
     OneOutcome ledger-enter.Post ×
@@ -340,10 +369,60 @@ ledger-outcomes = (
   once _,
   once _,
   once _,
+  once _,
 )
 
-pub trace-outcomes : OneOutcome trace-decode.Post
-trace-outcomes = once _
+pub trace-outcomes : OneOutcome trace-decode.Post × OneOutcome trace-Decoded-number.Post
+trace-outcomes = (once _, once _)
+
+pub machine-outcomes :
+    OneOutcome machine-Reason-refusal.Post ×
+    OneOutcome machine-Outcome-number.Post ×
+    OneOutcome machine-Outcome-x.Post ×
+    OneOutcome machine-Outcome-y.Post ×
+    OneOutcome machine-core-step.Post ×
+    OneOutcome machine-slot.Post ×
+    OneOutcome machine-Machine-core.Post ×
+    OneOutcome machine-step.Post ×
+    OneOutcome machine-fresh.Post
+machine-outcomes = (
+  once _,
+  once _,
+  once _,
+  once _,
+  once _,
+  once _,
+  once _,
+  once _,
+  once _,
+)
+
+pub lines-outcomes :
+    OneOutcome lines-Written-number.Post ×
+    OneOutcome lines-Written-end.Post ×
+    OneOutcome lines-records-room-for.Post
+lines-outcomes = (
+  once _,
+  once _,
+  once _,
+)
+
+-- the answer, and what the lent buffer holds
+pub lines-lent-outcomes :
+    OneOutcomeLent (λ exit. exit .0 .now) lines-put-line.Post ×
+    OneOutcomeLent (λ exit. exit .0 .now) lines-put-end.Post ×
+    OneOutcomeLent (λ exit. exit .0 .now) lines-put-tail.Post ×
+    OneOutcomeLent (λ exit. exit .0 .now) lines-put-input.Post ×
+    OneOutcomeLent (λ exit. exit .1 .0 .now) lines-records-replay.Post ×
+    OneOutcomeLent (λ exit. exit .1 .1 .1 .0 .now) lines-records-put-part.Post
+lines-lent-outcomes = (
+  once-lent (λ exit. exit .0 .now) _ _,
+  once-lent (λ exit. exit .0 .now) _ _,
+  once-lent (λ exit. exit .0 .now) _ _,
+  once-lent (λ exit. exit .0 .now) _ _,
+  (λ lives args one other here there p q. (p .0 ∙ sym (q .0), p .1 .0 ∙ sym (q .1 .0))),
+  once-lent (λ exit. exit .1 .1 .1 .0 .now) _ _,
+)
 
 pub tickclock-outcomes :
     OneOutcome usage-enable-number.Post ×

@@ -8,3 +8,11 @@ OneOutcome {Lives} {Args} {Answer} {Exit} Allows =
     Allows lives args one here →
     Allows lives args other there →
     one ≡ other
+
+-- and so is what a lent buffer holds afterwards
+abbrev pub OneOutcomeLent : {Lives Args Answer Exit Held : Type 0} → (Exit → Held) → (Lives → Args → Answer → Exit → Type 0) → Type 0
+OneOutcomeLent {Lives} {Args} {Answer} {Exit} held Allows =
+    (lives : Lives) (args : Args) (one other : Answer) (here there : Exit) →
+    Allows lives args one here →
+    Allows lives args other there →
+    (one ≡ other) × (held here ≡ held there)

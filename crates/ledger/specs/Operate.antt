@@ -24,12 +24,13 @@ use Rattle.ledger.specs.declared.Reported.the-variants as R
 use Rattle.ledger.specs.Stamp.{stampOf}
 use Rattle.ledger.specs.Entries.{stopped, enterOf}
 
--- a ledger of so many threads, none of them running
+-- none runs, and nothing has
+abbrev pub nothingBooked : Books
+nothingBooked = record { stamp = 0; running = 0; total = record { 0 = 0 } }
+
+-- a ledger of so many threads in which nothing has run
 abbrev pub freshOf : ℕ → Ledger
-freshOf slots = record {
-  books = record { stamp = 0; running = 0; total = record { 0 = 0 } };
-  threads = replicate slots newIdle;
-}
+freshOf slots = record { books = nothingBooked; threads = replicate slots newIdle }
 
 -- a running thread without a record
 unfoldable pub unrecorded : Books → ℕ → Bool

@@ -4,7 +4,7 @@ ghost use mathlib.Core.Bool.{cond};
 ghost use lib.Dec.{eqb};
 ghost use Rattle.ledger.specs.Stamp.{stampOf};
 ghost use Rattle.ledger.specs.Entries.{runs, charged, closeOf, stopOf, switchOf, altered, reopenOf, alterOf, enterOf, openOf};
-ghost use Rattle.ledger.specs.Operate.{freshOf, unrecorded, past, busy, concerned, refusedWith, operateOf, reportOf};
+ghost use Rattle.ledger.specs.Operate.{nothingBooked, freshOf, unrecorded, past, busy, concerned, refusedWith, operateOf, reportOf};
 ghost use Rattle.ledger.specs.Says.{answerSays, reportedSays, enteredWhy};
 use error::Refusal;
 use units::Cycles;
@@ -408,17 +408,23 @@ impl Reported {
     }
 }
 
+pub fn nothing_booked() -> Books
+    ensures { λ r. ⌜ r ≡ nothingBooked ⌝ }
+{
+    Books {
+        stamp: 0,
+        running: 0,
+        total: Cycles(0),
+    }
+}
+
 // A ledger in which nothing has run.
 pub fn fresh() -> Ledger
     ensures { λ r. do ⌜ r ≡ freshOf (← ⟦ThreadUsage::SLOTS⟧ .entry) ⌝ }
 {
     let idle = ThreadUsage::new_idle();
     Ledger {
-        books: Books {
-            stamp: 0,
-            running: 0,
-            total: Cycles(0),
-        },
+        books: nothing_booked(),
         threads: [idle; ThreadUsage::SLOTS],
     }
 }

@@ -4,8 +4,10 @@ use mathlib.Core.Bool.{Bool, cond, not, _&&_, _||_}
 use mathlib.Core.List.{List, [], _∷_}
 use lib.ListN.{length, getD}
 use lib.Dec.{ltb, leb, eqb}
+use lib.IntN.{ℤ}
 use Rattle.error.specs.declared.Refusal.{Refusal}
 use Rattle.error.specs.declared.Refusal.the-variants.{Invalid}
+use Rattle.error.specs.Numbers.{ok, numberOf}
 use Rattle.error.specs.InOrder.{Row, inOrder}
 use Rattle.counter.specs.Entries.{goodPeriod}
 use Rattle.clock.specs.declared.Gaps.{Gaps}
@@ -84,3 +86,8 @@ decodeFields f = inOrder (decodeTests f) D.Refused (D.Accepted (recordOf f))
 -- fewer than sixteen bytes are no record
 unfoldable pub decodeOf : List ℕ → ℕ → Decoded
 decodeOf s at = inOrder ((ltb (length s) (at + 16), Invalid) ∷ []) D.Refused (decodeFields (fieldsAt s at))
+
+-- what the answer says: 0, or the refusal's number
+unfoldable pub decodedNumber : Decoded → ℤ
+decodedNumber (D.Accepted r) = ok
+decodedNumber (D.Refused why) = numberOf why

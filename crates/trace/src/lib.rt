@@ -2,7 +2,7 @@
 ghost use Prim.Native.Nat.{_+_, _≤_};
 ghost use mathlib.Core.Path.{_≡_};
 ghost use lib.ListN.{length};
-ghost use Rattle.trace.specs.Decode.{wordOf, wordAt, fieldsAt, samples, usesThread, unusedSet, badSetup, recordOf, decodeFields, decodeOf};
+ghost use Rattle.trace.specs.Decode.{wordOf, wordAt, fieldsAt, samples, usesThread, unusedSet, badSetup, recordOf, decodeFields, decodeOf, decodedNumber};
 use clock::Gaps;
 use error::Refusal;
 
@@ -37,6 +37,17 @@ pub enum Record {
 pub enum Decoded {
     Accepted(Record),
     Refused(Refusal),
+}
+
+impl Decoded {
+    pub fn number(self) -> i32
+        ensures { λ r. ⌜ r ≡ decodedNumber self ⌝ }
+    {
+        match self {
+            Decoded::Accepted(_) => error::OK,
+            Decoded::Refused(why) => why.number(),
+        }
+    }
 }
 
 fn word(a: u8, b: u8, c: u8, d: u8) -> u32

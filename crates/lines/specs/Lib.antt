@@ -1,0 +1,5 @@
+pub mod Text
+pub mod Says
+pub mod Writing
+pub mod ReadsBack
+pub mod Replay

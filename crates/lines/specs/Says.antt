@@ -1,0 +1,10 @@
+-- What the answer of a writer says: 01's number, and the place after the text.
+use Prim.Native.Nat.{ℕ}
+use Rattle.error.specs.Said.{Said, accepted, refused}
+use Rattle.lines.specs.declared.Written.{Written}
+use Rattle.lines.specs.declared.Written.the-variants as W
+
+-- 0 where refused
+unfoldable pub writtenSays : Written → Said ℕ
+writtenSays (W.Accepted end) = accepted end
+writtenSays (W.Refused why) = refused why 0

@@ -1,0 +1,116 @@
+// The output's lines, put into a lent buffer: a whole line, or nothing where it has no room.
+ghost use mathlib.Core.Path.{_≡_};
+ghost use Prim.Native.Nat.{_≤_};
+ghost use mathlib.Core.List.{[], _∷_, _++_};
+ghost use lib.ListN.{length};
+ghost use Rattle.lines.specs.Says.{writtenSays};
+ghost use Rattle.lines.specs.Text.{signed, lineText, endText, tailText, inputText, putOf, writtenOf};
+use buffer::lacks_room;
+use buffer::put_letters;
+use codes::code_places;
+use codes::put_code;
+use digits::places;
+use digits::put_number;
+use error::Refusal;
+
+mod buffer;
+mod codes;
+mod digits;
+pub mod records;
+
+pub enum Written {
+    // The place after the text.
+    Accepted(usize),
+    Refused(Refusal),
+}
+
+impl Written {
+    pub fn number(self) -> i32
+        ensures { λ r. ⌜ r ≡ writtenSays self .number ⌝ }
+    {
+        match self {
+            Written::Accepted(_) => error::OK,
+            Written::Refused(why) => why.number(),
+        }
+    }
+
+    pub fn end(self) -> usize
+        ensures { λ r. ⌜ r ≡ writtenSays self .value ⌝ }
+    {
+        match self {
+            Written::Accepted(end) => end,
+            Written::Refused(_) => 0,
+        }
+    }
+}
+
+// A step's line: its number, its code and two values.
+pub fn put_line(out: &mut [u8], at: usize, number: u64, code: i32, x: u64, y: u64) -> Written
+    ensures answer { λ r. ⌜ r ≡ writtenOf (now (out .entry)) at (lineText number code x y) ⌝ }
+    ensures buffer { λ r. ⌜ now (out .exit) ≡ putOf (now (out .entry)) at (lineText number code x y) ⌝ }
+{
+    let number_size = places(number);
+    let code_size = code_places(code);
+    let x_size = places(x);
+    let y_size = places(y);
+    let size = number_size + code_size + x_size + y_size + 4;
+    if lacks_room(out.len(), at, size) {
+        return Written::Refused(Refusal::NoSpace);
+    }
+    let second = put_number(out, at, number, number_size, b' ');
+    let third = put_code(out, second, code, code_size, b' ');
+    let fourth = put_number(out, third, x, x_size, b' ');
+    let end = put_number(out, fourth, y, y_size, b'\n');
+    Written::Accepted(end)
+}
+
+// The line after the last record.
+pub fn put_end(out: &mut [u8], at: usize, cycles: u64, reading: u64) -> Written
+    ensures answer { λ r. ⌜ r ≡ writtenOf (now (out .entry)) at (endText cycles reading) ⌝ }
+    ensures buffer { λ r. ⌜ now (out .exit) ≡ putOf (now (out .entry)) at (endText cycles reading) ⌝ }
+{
+    let cycles_size = places(cycles);
+    let reading_size = places(reading);
+    let size = cycles_size + reading_size + 6;
+    if lacks_room(out.len(), at, size) {
+        return Written::Refused(Refusal::NoSpace);
+    }
+    put_letters(out, at, b"end ");
+    let second = at + 4;
+    let third = put_number(out, second, cycles, cycles_size, b' ');
+    let end = put_number(out, third, reading, reading_size, b'\n');
+    Written::Accepted(end)
+}
+
+// A word with its space, and a code.
+fn put_reason(out: &mut [u8], at: usize, letters: &[u8], code: i32) -> Written
+    requires { ⌜ length (now letters) ≤ 8 ⌝ }
+    ensures answer { λ r. ⌜ r ≡ writtenOf (now (out .entry)) at (now (letters .entry) ++ signed code ++ 10 ∷ []) ⌝ }
+    ensures buffer { λ r. ⌜ now (out .exit) ≡ putOf (now (out .entry)) at (now (letters .entry) ++ signed code ++ 10 ∷ []) ⌝ }
+{
+    let code_size = code_places(code);
+    let size = letters.len() + code_size + 1;
+    if lacks_room(out.len(), at, size) {
+        return Written::Refused(Refusal::NoSpace);
+    }
+    put_letters(out, at, letters);
+    let second = at + letters.len();
+    let end = put_code(out, second, code, code_size, b'\n');
+    Written::Accepted(end)
+}
+
+// A trace whose last record is not whole.
+pub fn put_tail(out: &mut [u8], at: usize) -> Written
+    ensures answer { λ r. ⌜ r ≡ writtenOf (now (out .entry)) at tailText ⌝ }
+    ensures buffer { λ r. ⌜ now (out .exit) ≡ putOf (now (out .entry)) at tailText ⌝ }
+{
+    put_reason(out, at, b"tail ", error::EINVAL)
+}
+
+// A trace that is larger than the room for it.
+pub fn put_input(out: &mut [u8], at: usize) -> Written
+    ensures answer { λ r. ⌜ r ≡ writtenOf (now (out .entry)) at inputText ⌝ }
+    ensures buffer { λ r. ⌜ now (out .exit) ≡ putOf (now (out .entry)) at inputText ⌝ }
+{
+    put_reason(out, at, b"input ", error::ENOSPC)
+}

@@ -1,0 +1,105 @@
+-- What the tests let through is accepted: no entry below turns away a task that passed.
+use Prim.Native.Nat.{_-_, ℕ, _+_, _*_}
+use mathlib.Core.Path.{_≡_, refl, sym, ap, subst, _∙_}
+use mathlib.Core.Bool.{Bool, true, false, not, _&&_, _||_, false≢true}
+use lib.Dec.{eqb}
+use borrow.Author.Tests.{ltb-false, eqb-false}
+use Rattle.error.proofs.Tests.{clash}
+use Rattle.error.specs.declared.Refusal.{Refusal}
+use Rattle.error.specs.Numbers.{max32, max64}
+use Rattle.error.specs.InOrder.{NoneHolds}
+use Rattle.error.proofs.Ordered.{accepts, refuses, accepted-only, refused-only}
+use Rattle.usage.specs.declared.ThreadUsage.{ThreadUsage}
+use Rattle.counter.specs.Entries.{goodPeriod}
+use Rattle.counter.proofs.Outcomes.{ran-on, in-range-of}
+use Rattle.clock.specs.declared.Gaps.{Gaps}
+use Rattle.clock.specs.declared.Timer.{Timer}
+use Rattle.clock.specs.declared.SampleTaken.{SampleTaken}
+use Rattle.clock.specs.declared.Sampled.{Sampled}
+use Rattle.clock.specs.declared.Sampled.the-variants as S
+use Rattle.clock.specs.declared.SetUp.{SetUp}
+use Rattle.clock.specs.declared.SetUp.the-variants as U
+use Rattle.clock.specs.Timer.{wellFormed}
+use Rattle.clock.proofs.Outcomes.{formed-valid, sampled, set-up}
+use Rattle.ledger.specs.Operate.{unrecorded}
+use Rattle.machine.specs.declared.Core.{Core}
+use Rattle.machine.specs.declared.tasks.Asked.{Asked}
+use Rattle.machine.specs.declared.tasks.Task.{Task}
+use Rattle.machine.specs.declared.tasks.Task.the-variants as T
+use Rattle.machine.specs.Task.{askedBy, sumOf}
+use Rattle.machine.specs.declared.Reason.{Reason}
+use Rattle.machine.specs.declared.table.Verdict.{Verdict}
+use Rattle.machine.specs.declared.table.Verdict.the-variants as D
+use Rattle.machine.specs.Table.{malformed, crowded, table, testedOf}
+use Rattle.machine.specs.Step.{turned, effectOf, taskStep}
+use Rattle.machine.specs.Accepts.{Samples, SetsUp, Accepts}
+
+-- an answer that is accepted is not refused, and holds what it was accepted with
+pub never-sampled : {answer : Sampled} {taken : SampleTaken} {why : Refusal} → answer ≡ S.Accepted taken → answer ≡ S.Refused why → ⊥
+never-sampled p q = clash (cc)
+
+pub sampled-is : {answer : Sampled} {one other : SampleTaken} → answer ≡ S.Accepted one → answer ≡ S.Accepted other → one ≡ other
+sampled-is p q = cc
+
+pub never-set-up : {answer : SetUp} {timer : Timer} {why : Refusal} → answer ≡ U.Accepted timer → answer ≡ U.Refused why → ⊥
+never-set-up p q = clash (cc)
+
+pub set-up-is : {answer : SetUp} {one other : Timer} → answer ≡ U.Accepted one → answer ≡ U.Accepted other → one ≡ other
+set-up-is p q = cc
+
+-- a task that is no setup passed on a machine that is set up
+ready-of : (ready : Bool) → not ready && true ≡ false → ready ≡ true
+ready-of true e = refl
+ready-of false e = absurd (false≢true (sym e))
+
+-- and one that is set up and not malformed is well formed
+well-formed-of : (ready formed lost : Bool) → ready ≡ true → ready && (not formed || lost) ≡ false → formed ≡ true
+well-formed-of true true lost r e = refl
+well-formed-of true false lost r e = absurd (false≢true (sym e))
+well-formed-of false formed lost r e = absurd (false≢true r)
+
+pub formed-of : (c : Core) (slots : ℕ) → c .ready ≡ true → malformed c slots ≡ false → wellFormed (c .timer) ≡ true
+unfolding malformed
+formed-of c slots r e = well-formed-of (c .ready) (wellFormed (c .timer)) (unrecorded (c .books) slots) r e
+
+module _ (c : Core) (slots : ℕ) (whole : malformed c slots ≡ false) where
+  sample-accepted : (g : Gaps) (past busy : Bool) → NoneHolds (table c (record { setup = false; bad = false; past = past; busy = busy; samples = true; cycles = sumOf g })) → Samples c g
+  unfolding crowded
+  sample-accepted g past busy none =
+      sampled (c .timer) g (formed-of c slots (ready-of (c .ready) (none .1 .0)) whole)
+      (ltb-false max32 (c .timer .clock .overflow + 2 * c .timer .counter .period - 1) (none .1 .1 .1 .1 .1 .0))
+      (ltb-false max64 (c .timer .counter .cycles .0 + sumOf g) (none .1 .1 .1 .1 .1 .1 .0))
+
+  set-up-accepted : (period tick : ℕ) (good : Bool) → goodPeriod period ≡ good → (none : Bool) → eqb tick 0 ≡ none → not (good && not none) ≡ false → SetsUp (record { period = period; tick = tick })
+  set-up-accepted period tick true e false z h = set-up period tick e (eqb-false tick 0 z)
+  set-up-accepted period tick true e true z h = absurd (false≢true (sym h))
+  set-up-accepted period tick false e none z h = absurd (false≢true (sym h))
+
+  pub accepted : (task : Task) → NoneHolds (table c (askedBy (c .books) slots task)) → Accepts c task
+  unfolding Accepts askedBy
+  accepted (T.Run p) none =
+      ran-on (c .timer .counter) p
+      (in-range-of (c .timer .counter) (formed-valid (c .timer) (formed-of c slots (ready-of (c .ready) (none .1 .0)) whole)))
+      (ltb-false max64 (c .timer .counter .cycles .0 + p) (none .1 .1 .1 .1 .1 .1 .0))
+  accepted (T.Sample g) none = sample-accepted g false false none
+  accepted (T.Operate op g) none = sample-accepted g _ _ none
+  accepted T.Announce none = tt
+  accepted (T.Report i) none = tt
+  accepted (T.Setup s) none = set-up-accepted (s .period) (s .tick) _ refl _ refl (none .0)
+
+-- a task's own case, from what is known of the task
+pub accepts-as : (c : Core) {task case : Task} → task ≡ case → Accepts c task → Accepts c case
+accepts-as c e h = subst (Accepts c) e h
+
+module _ (c : Core) (u : ThreadUsage) (slots : ℕ) (task : Task) {asked : Asked} {verdict : Verdict} (tests : verdict ≡ testedOf c asked) (asks : asked ≡ askedBy (c .books) slots task) where
+  pub passed-all : verdict ≡ D.Passed → NoneHolds (table c (askedBy (c .books) slots task))
+  unfolding testedOf
+  passed-all e = accepted-only D.Refused D.Passed (λ why q. clash (cc)) (table c (askedBy (c .books) slots task)) (ap (testedOf c) (sym asks) ∙ (sym tests ∙ e))
+
+  pub passes : verdict ≡ D.Passed → effectOf c u task ≡ taskStep c u slots task
+  unfolding taskStep
+  passes e = sym (accepts (turned c u) (effectOf c u task) (table c (askedBy (c .books) slots task)) (passed-all e))
+
+  pub fails : {why : Reason} → verdict ≡ D.Refused why → turned c u why ≡ taskStep c u slots task
+  unfolding testedOf taskStep
+  fails e = sym (refuses (turned c u) (effectOf c u task) (table c (askedBy (c .books) slots task)) _ (refused-only D.Refused D.Passed (λ why q. clash (cc)) (λ r s q. cc) (table c (askedBy (c .books) slots task)) _ (ap (testedOf c) (sym asks) ∙ (sym tests ∙ e))))

@@ -1,0 +1,142 @@
+// What a record asks of the machine: each kind that changes the ledger is a sample and then one operation.
+ghost use mathlib.Core.Path.{_≡_};
+ghost use Prim.Native.Nat.{_+_};
+ghost use Rattle.machine.specs.Task.{taskOf, asksNothing, asksCycles, asksSample, asksOperation, asksReport, asksSetup, askedBy, threadOf};
+use clock::Gaps;
+use ledger::Books;
+use ledger::Operation;
+use trace::Record;
+use trace::Setup;
+
+// What a record asks for. Each kind that changes the ledger is a sample and then one operation.
+pub enum Task {
+    Run(u32),
+    Sample(Gaps),
+    Operate(Operation, Gaps),
+    Announce,
+    Report(u32),
+    Setup(Setup),
+}
+
+// What of a task the table's rows look at.
+pub struct Asked {
+    // A setup, and one with a bad period or tick.
+    pub setup: bool,
+    pub bad: bool,
+    // A thread past the table, and a start while one runs.
+    pub past: bool,
+    pub busy: bool,
+    // It samples, and it runs so many cycles.
+    pub samples: bool,
+    pub cycles: u64,
+}
+
+pub fn task_of(decoded: Record) -> Task
+    ensures { λ r. ⌜ r ≡ taskOf decoded ⌝ }
+{
+    match decoded {
+        Record::Run(p) => Task::Run(p),
+        Record::Sample(gaps) => Task::Sample(gaps),
+        Record::Announce => Task::Announce,
+        Record::Start(thread, gaps) => Task::Operate(Operation::Start(thread), gaps),
+        Record::Switch(thread, gaps) => Task::Operate(Operation::Switch(thread), gaps),
+        Record::Stop(gaps) => Task::Operate(Operation::Stop, gaps),
+        Record::Enable(thread, gaps) => Task::Operate(Operation::Enable(thread), gaps),
+        Record::Disable(thread, gaps) => Task::Operate(Operation::Disable(thread), gaps),
+        Record::Report(thread) => Task::Report(thread),
+        Record::Setup(setup) => Task::Setup(setup),
+    }
+}
+
+// p, q and r as one number of cycles: three of 32 bits can't pass 64.
+fn gaps_sum(gaps: Gaps) -> u64
+    ensures { λ r. ⌜ r ≡ gaps .p + gaps .q + gaps .r ⌝ }
+{
+    gaps.p as u64 + gaps.q as u64 + gaps.r as u64
+}
+
+fn asks_nothing() -> Asked
+    ensures { λ r. ⌜ r ≡ asksNothing ⌝ }
+{
+    Asked {
+        setup: false,
+        bad: false,
+        past: false,
+        busy: false,
+        samples: false,
+        cycles: 0,
+    }
+}
+
+fn asks_cycles(cycles: u64) -> Asked
+    ensures { λ r. ⌜ r ≡ asksCycles cycles ⌝ }
+{
+    let mut asked = asks_nothing();
+    asked.cycles = cycles;
+    asked
+}
+
+fn asks_sample(gaps: Gaps) -> Asked
+    ensures { λ r. ⌜ r ≡ asksSample gaps ⌝ }
+{
+    let mut asked = asks_cycles(gaps_sum(gaps));
+    asked.samples = true;
+    asked
+}
+
+fn asks_operation(books: Books, slots: usize, operation: Operation, gaps: Gaps) -> Asked
+    ensures { λ r. ⌜ r ≡ asksOperation books slots operation gaps ⌝ }
+{
+    let past = ledger::past(operation, slots);
+    let busy = ledger::busy(books, operation);
+    let mut asked = asks_sample(gaps);
+    asked.past = past;
+    asked.busy = busy;
+    asked
+}
+
+fn asks_report(slots: usize, thread: u32) -> Asked
+    ensures { λ r. ⌜ r ≡ asksReport slots thread ⌝ }
+{
+    let k = thread as usize;
+    let mut asked = asks_nothing();
+    asked.past = slots <= k;
+    asked
+}
+
+// No bytes decode to a bad setup, but one can be handed in.
+fn asks_setup(setup: Setup) -> Asked
+    ensures { λ r. ⌜ r ≡ asksSetup setup ⌝ }
+{
+    let good = counter::good_period(setup.period);
+    let mut asked = asks_nothing();
+    asked.setup = true;
+    asked.bad = !(good & (setup.tick != 0));
+    asked
+}
+
+pub fn asked_by(books: Books, slots: usize, task: Task) -> Asked
+    ensures { λ r. ⌜ r ≡ askedBy books slots task ⌝ }
+{
+    match task {
+        Task::Run(p) => asks_cycles(p as u64),
+        Task::Sample(gaps) => asks_sample(gaps),
+        Task::Operate(operation, gaps) => asks_operation(books, slots, operation, gaps),
+        Task::Announce => asks_nothing(),
+        Task::Report(thread) => asks_report(slots, thread),
+        Task::Setup(setup) => asks_setup(setup),
+    }
+}
+
+pub fn thread_of(books: Books, task: Task) -> u32
+    ensures { λ r. ⌜ r ≡ threadOf books task ⌝ }
+{
+    match task {
+        Task::Run(_) => 0,
+        Task::Sample(_) => 0,
+        Task::Operate(operation, _) => ledger::concerned(books, operation),
+        Task::Announce => 0,
+        Task::Report(thread) => thread,
+        Task::Setup(_) => 0,
+    }
+}

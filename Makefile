@@ -5,10 +5,11 @@ all:
 	rt check
 	rt staticlib tickclock
 
-# Holds the leaves to upstream's own answers and says how many agree.
+# Holds the leaves to upstream's own answers and the replay of traces to 01's lines, and says what agrees.
 cases:
-	rt check cases
+	rt check cases trace_cases
 	sh tools/run.sh cases crates/cases/stdin
+	sh tools/run.sh trace_cases < crates/trace_cases/stdin
 
 # Replays a trace; with no TRACE, 01's printed case. Only its lines go to standard output.
 TRACE = traces/printed.trace

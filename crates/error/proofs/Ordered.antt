@@ -1,7 +1,7 @@
 -- Tests in order, both ways: what is answered says which tests hold.
-use mathlib.Core.Path.{_≡_, refl, sym}
+use mathlib.Core.Path.{_≡_, refl, sym, ap}
 use mathlib.Core.Bool.{Bool, true, false, cond}
-use mathlib.Core.List.{List, [], _∷_}
+use mathlib.Core.List.{List, [], _∷_, _++_}
 use mathlib.Core.Logic.{inl, inr}
 use Rattle.error.specs.InOrder.{Row, inOrder, NoneHolds, FirstIs}
 
@@ -53,3 +53,18 @@ carried f refuse answer (row ∷ rows) = by-test (row .0) (carried f refuse answ
     by-test : (b : Bool) → f (inOrder rows refuse answer) ≡ inOrder rows (λ why. f (refuse why)) (f answer) → f (cond b (refuse (row .1)) (inOrder rows refuse answer)) ≡ cond b (f (refuse (row .1))) (inOrder rows (λ why. f (refuse why)) (f answer))
     by-test true rest = refl
     by-test false rest = rest
+
+module _ {R A : Type 0} (refuse : R → A) where
+  -- an answer that is the same where no test holds
+  pub same-answer : (rows : List (Row R)) (one other : A) → (NoneHolds rows → one ≡ other) → inOrder rows refuse one ≡ inOrder rows refuse other
+  same-answer [] one other same = same tt
+  same-answer (row ∷ rows) one other same = by-test (λ t. same-answer rows one other (λ none. same (t, none))) (row .0) refl
+    where
+      by-test : (row .0 ≡ false → inOrder rows refuse one ≡ inOrder rows refuse other) → (b : Bool) → row .0 ≡ b → cond b (refuse (row .1)) (inOrder rows refuse one) ≡ cond b (refuse (row .1)) (inOrder rows refuse other)
+      by-test rest true t = refl
+      by-test rest false t = rest t
+
+  -- rows after rows
+  pub in-turn : (rows more : List (Row R)) (answer : A) → inOrder (rows ++ more) refuse answer ≡ inOrder rows refuse (inOrder more refuse answer)
+  in-turn [] more answer = refl
+  in-turn (row ∷ rows) more answer = ap (cond (row .0) (refuse (row .1))) (in-turn rows more answer)

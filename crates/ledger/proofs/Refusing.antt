@@ -39,7 +39,7 @@ unfoldable ChangeBy : Bool → Changed → Type 0
 ChangeBy t (C.Accepted u) = t ≡ false
 ChangeBy t (C.Refused why) = (why ≡ Overflow) × (t ≡ true)
 
-unfoldable EntryBy : Bool → Entered → Type 0
+unfoldable pub EntryBy : Bool → Entered → Type 0
 EntryBy t (E.Accepted e) = t ≡ false
 EntryBy t (E.Refused why) = (why ≡ Overflow) × (t ≡ true)
 
@@ -131,7 +131,7 @@ module _ (b : Books) (u : ThreadUsage) (now : ℕ) where
       (either (runs b i) _ _ _ _ (reopen-by i on)
       (change-then _ false _ _ (flag-by u on) (λ v. kept _)))
 
-  entry-by : (op : Operation) → EntryBy (full b u now op) (enterOf b u now op)
+  pub entry-by : (op : Operation) → EntryBy (full b u now op) (enterOf b u now op)
   unfolding enterOf switchOf full closes rises
   entry-by (O.Start i) = kept _
   entry-by (O.Switch i) = onward-then _ false _ _ stop-by (λ e p. kept _)

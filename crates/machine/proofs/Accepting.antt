@@ -48,7 +48,7 @@ pub set-up-is : {answer : SetUp} {one other : Timer} → answer ≡ U.Accepted o
 set-up-is p q = cc
 
 -- a task that is no setup passed on a machine that is set up
-ready-of : (ready : Bool) → not ready && true ≡ false → ready ≡ true
+pub ready-of : (ready : Bool) → not ready && true ≡ false → ready ≡ true
 ready-of true e = refl
 ready-of false e = absurd (false≢true (sym e))
 

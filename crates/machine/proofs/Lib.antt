@@ -1,3 +1,5 @@
 pub mod Outcomes
 pub mod Accepting
 pub mod Shown
+pub mod Refusing
+pub mod Keeping

@@ -4,3 +4,4 @@ pub mod Says
 pub mod Step
 pub mod Accepts
 pub mod Shown
+pub mod Laws

@@ -1,0 +1,195 @@
+-- What a refused step leaves: the whole machine, or the ledger and the sample.
+use Prim.Native.Nat.{ℕ}
+use mathlib.Core.Path.{_≡_, refl, sym, ap, _∙_, subst}
+use mathlib.Core.Bool.{false}
+use mathlib.Core.List.{List, [], _∷_, _++_}
+use mathlib.Core.Logic.{inl, inr}
+use lib.ListN.{length}
+use lib.Seq.{set-getD}
+use Rattle.error.proofs.Tests.{clash}
+use Rattle.error.specs.InOrder.{Row, NoneHolds, FirstIs}
+use Rattle.error.proofs.Ordered.{accepts, by-outcome}
+use Rattle.usage.specs.declared.ThreadUsage.{ThreadUsage}
+use Rattle.usage.specs.Record.{newIdle}
+use Rattle.clock.specs.declared.Gaps.{Gaps}
+use Rattle.clock.specs.declared.Announced.{Announced}
+use Rattle.clock.specs.declared.Announced.the-variants as A
+use Rattle.clock.specs.Sample.{sampleValue}
+use Rattle.clock.specs.Announce.{announceOf}
+use Rattle.ledger.specs.declared.Entered.{Entered}
+use Rattle.ledger.specs.declared.Entered.the-variants as E
+use Rattle.ledger.specs.declared.Operation.{Operation}
+use Rattle.ledger.specs.Operate.{recordOf}
+use Rattle.trace.specs.declared.Record.{Record}
+use Rattle.trace.specs.declared.Record.the-variants as K
+use Rattle.trace.specs.declared.Decoded.{Decoded}
+use Rattle.trace.specs.declared.Decoded.the-variants as D
+use Rattle.machine.specs.declared.Core.{Core}
+use Rattle.machine.specs.declared.CoreStep.{CoreStep}
+use Rattle.machine.specs.declared.Machine.{Machine}
+use Rattle.machine.specs.declared.Reason.{Reason}
+use Rattle.machine.specs.declared.Reason.the-variants as Why
+use Rattle.machine.specs.declared.Outcome.the-variants as O
+use Rattle.machine.specs.declared.tasks.Task.{Task}
+use Rattle.machine.specs.declared.tasks.Task.the-variants as T
+use Rattle.machine.specs.Task.{taskOf, askedBy}
+use Rattle.machine.specs.Table.{malformed, table}
+use Rattle.machine.specs.Step.{turned, enteredStep, announcedStep, effectOf, taskStep, decodedStep, coreStepOf, slotOf, coreOf, machineOf, steppedFrom, stepOf}
+use Rattle.machine.specs.Laws.{announceRows, lastRows, recordRows, everyRow, Operates, EveryRefusal}
+use Rattle.machine.proofs.Refusing.{exactly}
+
+-- a step that is refused for anything but a sum or window changes neither core nor record
+abbrev Stays : Core → ThreadUsage → CoreStep → Type 0
+Stays c u s = (why : Reason) → s .outcome ≡ O.Refused why → (why ≡ Why.WontFit → ⊥) → (s .core ≡ c) × (s .usage ≡ u) × (s .fresh ≡ false)
+
+module _ (c : Core) (u : ThreadUsage) where
+  turned-stays : (why : Reason) → Stays c u (turned c u why)
+  turned-stays why other e n = (refl, refl, refl)
+
+  entered-stays : (there : Core) (x : Entered) → Stays c u (enteredStep there u x)
+  unfolding enteredStep
+  entered-stays there (E.Accepted e) why q n = clash (cc)
+  entered-stays there (E.Refused w) why q n = absurd (n (cc))
+
+  announced-stays : (x : Announced) → Stays c u (announcedStep c u x)
+  unfolding announcedStep
+  announced-stays (A.Accepted a) why q n = clash (cc)
+  announced-stays (A.Refused w) why q n = (refl, refl, refl)
+
+  effect-stays : (task : Task) → Stays c u (effectOf c u task)
+  unfolding effectOf
+  effect-stays (T.Run p) why q n = clash (cc)
+  effect-stays (T.Sample g) why q n = clash (cc)
+  effect-stays (T.Operate op g) why q n = entered-stays _ _ why q n
+  effect-stays T.Announce why q n = announced-stays _ why q n
+  effect-stays (T.Report i) why q n = clash (cc)
+  effect-stays (T.Setup s) why q n = clash (cc)
+
+  record-stays : (slots : ℕ) (d : Decoded) → Stays c u (decodedStep c u slots d)
+  unfolding decodedStep taskStep
+  record-stays slots (D.Accepted r) = by-outcome (turned c u) _ (Stays c u) (table c (askedBy (c .books) slots (taskOf r))) turned-stays (λ none. effect-stays (taskOf r))
+  record-stays slots (D.Refused why) = turned-stays Why.BadRecord
+
+  core-stays : (slots : ℕ) (d : Decoded) → Stays c u (coreStepOf c u slots d)
+  unfolding coreStepOf
+  core-stays slots d = by-outcome (turned c u) _ (Stays c u) ((malformed c slots, Why.Malformed) ∷ []) turned-stays (λ none. record-stays slots d)
+
+-- a record put back where it was
+put-back : (m : Machine) (k : ℕ) (s : CoreStep) → (s .core ≡ coreOf m) × (s .usage ≡ recordOf (m .ledger) k) × (s .fresh ≡ false) → steppedFrom (m .ledger .threads) k s .machine ≡ m
+put-back m k s h = rw (h .0, h .1, h .2) (ap (machineOf (coreOf m)) (set-getD (m .ledger .threads) k newIdle))
+
+untouched : (m : Machine) (d : Decoded) (why : Reason) → stepOf m d .outcome ≡ O.Refused why → (why ≡ Why.WontFit → ⊥) → stepOf m d .machine ≡ m
+unfolding stepOf
+untouched m d why e n =
+    let k = slotOf (coreOf m) (length (m .ledger .threads)) d in
+    put-back m k (coreStepOf (coreOf m) (recordOf (m .ledger) k) (length (m .ledger .threads)) d)
+    (core-stays (coreOf m) (recordOf (m .ledger) k) (length (m .ledger .threads)) d why e n)
+
+-- rows that have another reason leave the first that holds to those after them
+Others : Reason → List (Row Reason) → Type 0
+Others why [] = Unit {0}
+Others why (row ∷ rows) = (row .1 ≡ why → ⊥) × Others why rows
+
+none-before : (why : Reason) (rows more : List (Row Reason)) → Others why rows → FirstIs (rows ++ more) why → NoneHolds rows × FirstIs more why
+unfolding Others
+none-before why [] more others first = (tt, first)
+none-before why (row ∷ rows) more others (inl here) = absurd (others .0 (here .1))
+none-before why (row ∷ rows) more others (inr later) = let rest = none-before why rows more (others .1) (later .1) in ((later .0, rest .0), rest .1)
+
+module _ (m : Machine) where
+  abbrev c : Core
+  c = coreOf m
+
+  abbrev slots : ℕ
+  slots = length (m .ledger .threads)
+
+  abbrev rowsOf : Task → List (Row Reason)
+  rowsOf task = table c (askedBy (m .ledger .books) slots task)
+
+  -- no row of the table, nor the malformed state, is a sum that won't fit
+  passed : (r : Record) → FirstIs (everyRow m (D.Accepted r)) Why.WontFit → (malformed c slots ≡ false) × NoneHolds (rowsOf (taskOf r)) × FirstIs (lastRows m (taskOf r)) Why.WontFit
+  unfolding recordRows Others
+  passed r (inl here) = clash (let e = here .1 in cc)
+  passed r (inr later) =
+      let rest = none-before Why.WontFit (rowsOf (taskOf r)) (lastRows m (taskOf r)) ((λ e. clash (cc)), ((λ e. clash (cc)), ((λ e. clash (cc)), ((λ e. clash (cc)), ((λ e. clash (cc)), ((λ e. clash (cc)), ((λ e. clash (cc)), tt))))))) (later .1) in
+      (later .0, rest .0, rest .1)
+
+  -- what passes has its effect
+  effect-had : (r : Record) → malformed c slots ≡ false → NoneHolds (rowsOf (taskOf r)) → (k : ℕ) → k ≡ slotOf c slots (D.Accepted r) → stepOf m (D.Accepted r) ≡ steppedFrom (m .ledger .threads) k (effectOf c (recordOf (m .ledger) k) (taskOf r))
+  unfolding stepOf coreStepOf decodedStep taskStep
+  effect-had r whole none k e = rw (e, whole, accepts (turned c (recordOf (m .ledger) (slotOf c slots (D.Accepted r)))) (effectOf c (recordOf (m .ledger) (slotOf c slots (D.Accepted r))) (taskOf r)) (rowsOf (taskOf r)) none) refl
+
+  -- the sample that an operation takes is kind 1's
+  entered-timer : (there : Core) (u : ThreadUsage) (x : Entered) → enteredStep there u x .core .timer ≡ there .timer
+  unfolding enteredStep
+  entered-timer there u (E.Accepted e) = refl
+  entered-timer there u (E.Refused why) = refl
+
+  operated-timer : (r : Record) (op : Operation) (g : Gaps) → taskOf r ≡ T.Operate op g → malformed c slots ≡ false → NoneHolds (rowsOf (taskOf r)) → stepOf m (D.Accepted r) .machine .timer ≡ sampleValue (m .timer) g .timer
+  unfolding effectOf
+  operated-timer r op g e whole none = rw (effect-had r whole none _ refl, e) (entered-timer _ _ _)
+
+  sampled-timer : (g : Gaps) → malformed c slots ≡ false → NoneHolds (rowsOf (T.Sample g)) → stepOf m (D.Accepted (K.Sample g)) .machine .timer ≡ sampleValue (m .timer) g .timer
+  unfolding effectOf taskOf
+  sampled-timer g whole none = ap (λ s. s .machine .timer) (effect-had (K.Sample g) whole none _ refl)
+
+  -- the tests of an operation are those of its sample, and more
+  sample-passes : (op : Operation) (g : Gaps) → NoneHolds (rowsOf (T.Operate op g)) → NoneHolds (rowsOf (T.Sample g))
+  unfolding askedBy
+  sample-passes op g none = (refl, (none .1 .0, (none .1 .1 .0, (refl, (refl, (none .1 .1 .1 .1 .1 .0, (none .1 .1 .1 .1 .1 .1 .0, tt)))))))
+
+  -- a refused entry gives books and record back
+  entered-kept : (there : Core) (k : ℕ) (x : Entered) → there .books ≡ m .ledger .books → enteredStep there (recordOf (m .ledger) k) x .outcome ≡ O.Refused Why.WontFit → steppedFrom (m .ledger .threads) k (enteredStep there (recordOf (m .ledger) k) x) .machine .ledger ≡ m .ledger
+  unfolding enteredStep
+  entered-kept there k (E.Accepted e) b q = clash (cc)
+  entered-kept there k (E.Refused why) b q = rw (b, set-getD (m .ledger .threads) k newIdle) refl
+
+  refused-ledger : (r : Record) (op : Operation) (g : Gaps) → taskOf r ≡ T.Operate op g → malformed c slots ≡ false → NoneHolds (rowsOf (taskOf r)) → stepOf m (D.Accepted r) .outcome ≡ O.Refused Why.WontFit → stepOf m (D.Accepted r) .machine .ledger ≡ m .ledger
+  unfolding effectOf
+  refused-ledger r op g e whole none q =
+      let had = effect-had r whole none _ refl in
+      rw (had, e) (entered-kept _ _ _ refl (rw (had, e) at q))
+
+  kept-sample : (d : Decoded) (r : Record) (g : Gaps) → d ≡ D.Accepted r → Operates r g → stepOf m d .outcome ≡ O.Refused Why.WontFit → (stepOf m d .machine .ledger ≡ m .ledger) × (stepOf m d .machine .timer ≡ stepOf m (D.Accepted (K.Sample g)) .machine .timer)
+  kept-sample d r g ed operates e =
+      let op = operates .0 in
+      let task = operates .1 in
+      let there : stepOf m (D.Accepted r) .outcome ≡ O.Refused Why.WontFit = subst (λ (x : Decoded). stepOf m x .outcome ≡ O.Refused Why.WontFit) ed e in
+      let p = passed r (exactly m (D.Accepted r) .refused Why.WontFit .0 there) in
+      rw ed (
+        refused-ledger r op g task (p .0) (p .1) there,
+        operated-timer r op g task (p .0) (p .1) ∙ sym (sampled-timer g (p .0) (sample-passes op g (subst (λ (t : Task). NoneHolds (rowsOf t)) task (p .1)))),
+      )
+
+  -- nothing but an operation has a sum
+  by-task : (task : Task) → FirstIs (lastRows m task) Why.WontFit → (op : Operation) × (g : Gaps) × (task ≡ T.Operate op g)
+  unfolding lastRows announceRows
+  by-task (T.Run p) first = absurd first
+  by-task (T.Sample g) first = absurd first
+  by-task (T.Operate op g) first = (op, g, refl)
+  by-task T.Announce first = absurd (no-sum (announceOf (m .timer)) first)
+    where
+      no-sum : (x : Announced) → FirstIs (announceRows x) Why.WontFit → ⊥
+      no-sum (A.Accepted a) first = first
+      no-sum (A.Refused why) (inl here) = clash (let e = here .1 in cc)
+      no-sum (A.Refused why) (inr later) = later .1
+  by-task (T.Report i) first = absurd first
+  by-task (T.Setup s) first = absurd first
+
+  only-operations : (d : Decoded) → stepOf m d .outcome ≡ O.Refused Why.WontFit → (r : Record) × (g : Gaps) × (d ≡ D.Accepted r) × Operates r g
+  unfolding recordRows
+  only-operations (D.Accepted r) e =
+      let found = by-task (taskOf r) (passed r (exactly m (D.Accepted r) .refused Why.WontFit .0 e) .2) in
+      (r, found .1, refl, (found .0, found .2))
+  only-operations (D.Refused why) e = absurd (no-row (exactly m (D.Refused why) .refused Why.WontFit .0 e))
+    where
+      at-record : FirstIs (recordRows m (D.Refused why)) Why.WontFit → ⊥
+      at-record (inl here) = clash (let e = here .1 in cc)
+      at-record (inr later) = later .1
+
+      no-row : FirstIs (everyRow m (D.Refused why)) Why.WontFit → ⊥
+      no-row (inl here) = clash (let e = here .1 in cc)
+      no-row (inr later) = at-record (later .1)
+
+pub every-refusal : EveryRefusal
+every-refusal m d = (exactly m d, record { untouched = untouched m d; sampled = kept-sample m d; only-operations = only-operations m d })

@@ -1,0 +1,143 @@
+-- Each refusal of a step, exactly, and what it leaves.
+use Prim.Native.Nat.{ℕ, _<_}
+use mathlib.Core.Path.{_≡_, refl, sym, ap, _∙_}
+use mathlib.Core.Bool.{Bool, true, false, cond, not, _&&_, _||_, false≢true}
+use mathlib.Core.List.{[], _∷_}
+use lib.ListN.{length}
+use lib.Dec.{ltb, leb, eqb}
+use borrow.Author.Tests.{leb-false, lt-ltb}
+use Rattle.error.proofs.Tests.{clash}
+use Rattle.error.specs.InOrder.{inOrder, NoneHolds}
+use Rattle.error.proofs.Ordered.{accepts, refuses, accepted-only, refused-only, carried, same-answer, in-turn}
+use Rattle.usage.specs.declared.ThreadUsage.{ThreadUsage}
+use Rattle.clock.specs.declared.Announced.{Announced}
+use Rattle.clock.specs.declared.Announced.the-variants as A
+use Rattle.clock.specs.Timer.{wellFormed}
+use Rattle.ledger.specs.declared.Books.{Books}
+use Rattle.ledger.specs.declared.Entered.{Entered}
+use Rattle.ledger.specs.declared.Entered.the-variants as E
+use Rattle.ledger.specs.declared.Operation.{Operation}
+use Rattle.ledger.specs.declared.Operation.the-variants as P
+use Rattle.ledger.specs.Operate.{unrecorded, past, concerned, recordOf}
+use Rattle.ledger.proofs.Refusing.{EntryBy, entry-by}
+use Rattle.trace.specs.declared.Decoded.{Decoded}
+use Rattle.trace.specs.declared.Decoded.the-variants as D
+use Rattle.machine.specs.declared.Core.{Core}
+use Rattle.machine.specs.declared.CoreStep.{CoreStep}
+use Rattle.machine.specs.declared.Machine.{Machine}
+use Rattle.machine.specs.declared.Reason.{Reason}
+use Rattle.machine.specs.declared.Reason.the-variants as Why
+use Rattle.machine.specs.declared.Values.{Values}
+use Rattle.machine.specs.declared.Outcome.{Outcome}
+use Rattle.machine.specs.declared.Outcome.the-variants as O
+use Rattle.machine.specs.declared.tasks.Task.{Task}
+use Rattle.machine.specs.declared.tasks.Task.the-variants as T
+use Rattle.machine.specs.declared.table.Verdict.{Verdict}
+use Rattle.machine.specs.declared.table.Verdict.the-variants as Y
+use Rattle.machine.specs.Task.{taskOf, askedBy, threadOf}
+use Rattle.machine.specs.Table.{malformed, table}
+use Rattle.machine.specs.Step.{turned, enteredStep, announcedStep, effectOf, taskStep, decodedStep, coreStepOf, decodedThread, slotOf, coreOf, stepOf}
+use Rattle.machine.proofs.Accepting.{ready-of}
+use Rattle.machine.specs.Laws.{announceRows, lastRows, recordRows, everyRow, Exactly}
+
+-- a machine that is set up and not malformed has a record for the thread that runs
+recorded : (ready formed lost : Bool) → ready ≡ true → ready && (not formed || lost) ≡ false → lost ≡ false
+recorded true true true r e = absurd (false≢true (sym e))
+recorded true true false r e = refl
+recorded true false lost r e = absurd (false≢true (sym e))
+recorded false formed lost r e = absurd (false≢true r)
+
+recorded-of : (c : Core) (slots : ℕ) → c .ready ≡ true → malformed c slots ≡ false → unrecorded (c .books) slots ≡ false
+unfolding malformed
+recorded-of c slots r e = recorded (c .ready) (wellFormed (c .timer)) (unrecorded (c .books) slots) r e
+
+-- whether a step was accepted, or why not
+unfoldable verdictOf : Outcome → Verdict
+verdictOf (O.Accepted values) = Y.Passed
+verdictOf (O.Refused why) = Y.Refused why
+
+-- the record concerned is the one at the slot, where the tests let an operation through
+slot-is : (b : Books) (op : Operation) (slots : ℕ) → unrecorded b slots ≡ false → past op slots ≡ false → cond (ltb (concerned b op) slots) (concerned b op) 0 ≡ concerned b op
+unfolding concerned past unrecorded
+slot-is b (P.Start i) slots e q = simp (lt-ltb i slots (leb-false _ _ q))
+slot-is b (P.Switch i) slots e q = going (eqb (b .stamp) 0) i e (leb-false _ _ q)
+  where
+    going : (stopped : Bool) (i : ℕ) → not stopped && leb slots (b .running) ≡ false → i < slots → cond (ltb (cond stopped i (b .running)) slots) (cond stopped i (b .running)) 0 ≡ cond stopped i (b .running)
+    going true i e h = simp (lt-ltb i slots h)
+    going false i e h = simp (lt-ltb (b .running) slots (leb-false _ _ e))
+slot-is b P.Stop slots e q = going (eqb (b .stamp) 0) e
+  where
+    none : (t : Bool) → _≡_ {A = ℕ} (cond t 0 0) 0
+    none true = refl
+    none false = refl
+
+    going : (stopped : Bool) → not stopped && leb slots (b .running) ≡ false → cond (ltb (cond stopped 0 (b .running)) slots) (cond stopped 0 (b .running)) 0 ≡ cond stopped 0 (b .running)
+    going true e = none (ltb 0 slots)
+    going false e = simp (lt-ltb (b .running) slots (leb-false _ _ e))
+slot-is b (P.Enable i) slots e q = simp (lt-ltb i slots (leb-false _ _ q))
+slot-is b (P.Disable i) slots e q = simp (lt-ltb i slots (leb-false _ _ q))
+
+entered-verdict : (c : Core) (u : ThreadUsage) (t : Bool) (x : Entered) → EntryBy t x → verdictOf (enteredStep c u x .outcome) ≡ cond t (Y.Refused Why.WontFit) Y.Passed
+unfolding verdictOf enteredStep EntryBy
+entered-verdict c u t (E.Accepted e) h = rw h refl
+entered-verdict c u t (E.Refused why) h = rw (h .1) refl
+
+announced-verdict : (c : Core) (u : ThreadUsage) (x : Announced) → verdictOf (announcedStep c u x .outcome) ≡ inOrder (announceRows x) Y.Refused Y.Passed
+unfolding verdictOf announcedStep announceRows
+announced-verdict c u (A.Accepted a) = refl
+announced-verdict c u (A.Refused why) = refl
+
+-- of the effect, the last rows
+effect-verdict : (m : Machine) (task : Task) → let c = coreOf m in malformed c (length (m .ledger .threads)) ≡ false → NoneHolds (table c (askedBy (m .ledger .books) (length (m .ledger .threads)) task)) → (k : ℕ) → k ≡ cond (ltb (threadOf (m .ledger .books) task) (length (m .ledger .threads))) (threadOf (m .ledger .books) task) 0 → verdictOf (effectOf c (recordOf (m .ledger) k) task .outcome) ≡ inOrder (lastRows m task) Y.Refused Y.Passed
+unfolding effectOf lastRows verdictOf askedBy threadOf
+effect-verdict m (T.Run p) whole none k e = refl
+effect-verdict m (T.Sample g) whole none k e = refl
+effect-verdict m (T.Operate op g) whole none k e =
+    rw (e ∙ slot-is (m .ledger .books) op (length (m .ledger .threads)) (recorded-of (coreOf m) (length (m .ledger .threads)) (ready-of (m .ready) (none .1 .0)) whole) (none .1 .1 .1 .0))
+    (entered-verdict _ _ _ _ (entry-by (m .ledger .books) (recordOf (m .ledger) (concerned (m .ledger .books) op)) _ op))
+effect-verdict m T.Announce whole none k e = announced-verdict _ _ _
+effect-verdict m (T.Report i) whole none k e = refl
+effect-verdict m (T.Setup s) whole none k e = refl
+
+module _ (m : Machine) where
+  abbrev slots : ℕ
+  slots = length (m .ledger .threads)
+
+  record-verdict : (d : Decoded) → malformed (coreOf m) slots ≡ false → (k : ℕ) → k ≡ slotOf (coreOf m) slots d → verdictOf (decodedStep (coreOf m) (recordOf (m .ledger) k) slots d .outcome) ≡ inOrder (recordRows m d) Y.Refused Y.Passed
+  unfolding decodedStep taskStep recordRows slotOf decodedThread verdictOf
+  record-verdict (D.Accepted r) whole k e =
+      carried (λ (s : CoreStep). verdictOf (s .outcome)) (turned (coreOf m) (recordOf (m .ledger) k)) _ (table (coreOf m) (askedBy (m .ledger .books) slots (taskOf r))) ∙
+      (same-answer Y.Refused (table (coreOf m) (askedBy (m .ledger .books) slots (taskOf r))) _ _ (λ none. effect-verdict m (taskOf r) whole none k e) ∙
+      sym (in-turn Y.Refused (table (coreOf m) (askedBy (m .ledger .books) slots (taskOf r))) (lastRows m (taskOf r)) Y.Passed))
+  record-verdict (D.Refused why) whole k e = refl
+
+  step-verdict : (d : Decoded) → verdictOf (stepOf m d .outcome) ≡ inOrder (everyRow m d) Y.Refused Y.Passed
+  unfolding stepOf coreStepOf verdictOf
+  step-verdict d =
+      carried (λ (s : CoreStep). verdictOf (s .outcome)) (turned (coreOf m) (recordOf (m .ledger) (slotOf (coreOf m) slots d))) _ ((malformed (coreOf m) slots, Why.Malformed) ∷ []) ∙
+      same-answer Y.Refused ((malformed (coreOf m) slots, Why.Malformed) ∷ []) _ _ (λ none. record-verdict d (none .0) _ refl)
+
+-- an outcome is known by its verdict
+refused-is : (o : Outcome) (why : Reason) → verdictOf o ≡ Y.Refused why → o ≡ O.Refused why
+unfolding verdictOf
+refused-is (O.Accepted values) why e = clash (cc)
+refused-is (O.Refused other) why e = ap O.Refused (cc)
+
+accepted-is : (o : Outcome) → verdictOf o ≡ Y.Passed → (values : Values) × (o ≡ O.Accepted values)
+unfolding verdictOf
+accepted-is (O.Accepted values) e = (values, refl)
+accepted-is (O.Refused other) e = clash (cc)
+
+module _ (m : Machine) (d : Decoded) where
+  pub exactly : Exactly m d
+  unfolding verdictOf
+  exactly = record {
+    refused = λ why. (
+      (λ e. refused-only Y.Refused Y.Passed (λ w q. clash (cc)) (λ r s q. cc) (everyRow m d) why (sym (step-verdict m d) ∙ ap verdictOf e)),
+      (λ first. refused-is (stepOf m d .outcome) why (step-verdict m d ∙ refuses Y.Refused Y.Passed (everyRow m d) why first)),
+    );
+    accepted = (
+      (λ e. accepted-only Y.Refused Y.Passed (λ w q. clash (cc)) (everyRow m d) (sym (step-verdict m d) ∙ ap verdictOf (e .1))),
+      (λ none. accepted-is (stepOf m d .outcome) (step-verdict m d ∙ accepts Y.Refused Y.Passed (everyRow m d) none)),
+    );
+  }

@@ -148,13 +148,13 @@ use Rattle.machine.proofs.step.Reads as machine-step
 use Rattle.machine.proofs.fresh.Reads as machine-fresh
 use Rattle.lines.proofs.Written.number.Reads as lines-Written-number
 use Rattle.lines.proofs.Written.end.Reads as lines-Written-end
-use Rattle.lines.proofs.records.room_for.Reads as lines-records-room-for
+use Rattle.transcript.proofs.room_for.Reads as transcript-room-for
 use Rattle.lines.proofs.put_line.Reads as lines-put-line
 use Rattle.lines.proofs.put_end.Reads as lines-put-end
 use Rattle.lines.proofs.put_tail.Reads as lines-put-tail
 use Rattle.lines.proofs.put_input.Reads as lines-put-input
-use Rattle.lines.proofs.records.replay.Reads as lines-records-replay
-use Rattle.lines.proofs.records.put_part.Reads as lines-records-put-part
+use Rattle.transcript.proofs.replay.Reads as transcript-replay
+use Rattle.transcript.proofs.put_part.Reads as transcript-put-part
 use Rattle.ledger.proofs.nothing_booked.Reads as ledger-nothing-booked
 use Rattle.demands.specs.Outcome.{OneOutcome, OneOutcomeLent}
 
@@ -400,7 +400,7 @@ machine-outcomes = (
 pub lines-outcomes :
     OneOutcome lines-Written-number.Post ×
     OneOutcome lines-Written-end.Post ×
-    OneOutcome lines-records-room-for.Post
+    OneOutcome transcript-room-for.Post
 lines-outcomes = (
   once _,
   once _,
@@ -413,8 +413,8 @@ pub lines-lent-outcomes :
     OneOutcomeLent (λ exit. exit .0 .now) lines-put-end.Post ×
     OneOutcomeLent (λ exit. exit .0 .now) lines-put-tail.Post ×
     OneOutcomeLent (λ exit. exit .0 .now) lines-put-input.Post ×
-    OneOutcomeLent (λ exit. exit .1 .0 .now) lines-records-replay.Post ×
-    OneOutcomeLent (λ exit. exit .1 .1 .1 .0 .now) lines-records-put-part.Post
+    OneOutcomeLent (λ exit. exit .1 .0 .now) transcript-replay.Post ×
+    OneOutcomeLent (λ exit. exit .1 .1 .1 .0 .now) transcript-put-part.Post
 lines-lent-outcomes = (
   once-lent (λ exit. exit .0 .now) _ _,
   once-lent (λ exit. exit .0 .now) _ _,

@@ -8,5 +8,3 @@ pub mod Parts
 pub mod StepLine
 pub mod WordLine
 pub mod ReadsBack
-pub mod Replaying
-pub mod Texts

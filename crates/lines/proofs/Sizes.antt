@@ -9,8 +9,7 @@ use lib.Signed.{mag}
 use mir.Syntax.{w32}
 use mir.Val.{SFits, toZ, ofZ}
 use mir.Facts.{toZ-ofZ}
-use Rattle.lines.specs.Text.{decimal, signed, lineText, endText, tailText, inputText}
-use Rattle.lines.specs.Replay.{lineRoom, endRoom}
+use Rattle.lines.specs.Text.{decimal, signed, lineText, endText, tailText, inputText, lineRoom, endRoom}
 use Rattle.lines.proofs.Decimal.{size-most, size-64}
 
 pub line-size : (number : ℕ) (code : ℤ) (x y : ℕ) → length (lineText number code x y) ≡ length (decimal number) + length (signed code) + length (decimal x) + length (decimal y) + 4

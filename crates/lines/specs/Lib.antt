@@ -2,4 +2,3 @@ pub mod Text
 pub mod Says
 pub mod Writing
 pub mod ReadsBack
-pub mod Replay

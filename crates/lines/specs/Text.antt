@@ -52,3 +52,10 @@ putOf buffer at text = cond (fits buffer at text) (sets buffer at text) buffer
 -- the place after the text, or no room
 unfoldable pub writtenOf : List ℕ → ℕ → List ℕ → Written
 writtenOf buffer at text = cond (fits buffer at text) (W.Accepted (at + length text)) (W.Refused NoSpace)
+
+-- no line of 64-bit numbers and a 32-bit code is longer, nor is the last one
+abbrev pub lineRoom : ℕ
+lineRoom = 75
+
+abbrev pub endRoom : ℕ
+endRoom = 46

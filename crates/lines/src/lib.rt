@@ -16,7 +16,6 @@ use error::Refusal;
 mod buffer;
 mod codes;
 mod digits;
-pub mod records;
 
 pub enum Written {
     // The place after the text.

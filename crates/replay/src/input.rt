@@ -2,7 +2,7 @@
 ghost use Rattle.replay.specs.Within.{Within};
 
 // One byte more than a trace may have: what comes after it can't change the text.
-pub const MOST: usize = lines::records::MOST_BYTES + 1;
+pub const MOST: usize = transcript::MOST_BYTES + 1;
 
 pub enum Input {
     // How many bytes came before the input ended or the array was full.

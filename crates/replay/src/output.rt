@@ -3,8 +3,8 @@ use lines::Written;
 
 // Room for the lines of any trace is lent, and all of them fit.
 pub fn write_lines(trace: &[u8]) {
-    let mut text = [0u8; lines::records::MOST_ROOM];
-    let written = lines::records::replay(trace, &mut text);
+    let mut text = [0u8; transcript::MOST_ROOM];
+    let written = transcript::replay(trace, &mut text);
     let Written::Accepted(length) = written else {
         complain(b"the lines do not fit\n");
         return;

@@ -6,7 +6,7 @@ use crate::hold::hold;
 use crate::say;
 
 // One byte more than a trace may have.
-const MOST: usize = lines::records::MOST_BYTES + 1;
+const MOST: usize = transcript::MOST_BYTES + 1;
 
 pub enum Verdict {
     Agrees,
@@ -31,9 +31,9 @@ fn judge_trace(list: &[u8], from: usize, trace: &[u8], size: usize) -> Verdict {
     if trace.len() < size {
         return Verdict::Unreadable;
     }
-    let mut text = [0u8; lines::records::MOST_ROOM];
+    let mut text = [0u8; transcript::MOST_ROOM];
     let start: usize = 0;
-    let written = lines::records::replay(&trace[start..size], &mut text);
+    let written = transcript::replay(&trace[start..size], &mut text);
     judge_text(list, from, &text, written.end())
 }
 

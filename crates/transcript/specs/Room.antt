@@ -1,0 +1,28 @@
+-- What the private workers ask of their caller, and what the records' lines leave.
+use Prim.Native.Nat.{ℕ, _+_, _*_, _/_, _≤_}
+use mathlib.Core.Path.{_≡_}
+use mathlib.Core.List.{List}
+use lib.ListN.{length}
+use lib.Seq.{sets}
+use Rattle.error.specs.Numbers.{max64}
+use Rattle.machine.specs.declared.Machine.{Machine}
+use Rattle.transcript.specs.declared.Replayed.{Replayed}
+use Rattle.transcript.specs.Replay.{recordsFrom, machineAfter, linesFrom, lastRoom, mostBytes}
+use Rattle.lines.specs.Text.{lineRoom}
+
+-- the numbers fit, and so do the longest lines
+pub record HasRoom (first count : ℕ) (out : List ℕ) (at : ℕ) : Type 0 where
+  pub numbers : first + count ≤ max64
+  pub places : count * 16 ≤ max64
+  pub room : at + count * lineRoom ≤ length out
+
+pub record Fits (trace out : List ℕ) : Type 0 where
+  pub few : length trace ≤ mostBytes
+  pub room : length trace / 16 * lineRoom + lastRoom ≤ length out
+
+-- the lines of so many records
+pub record Replays (m : Machine) (first count : ℕ) (trace before now : List ℕ) (at : ℕ) (r : Replayed) : Type 0 where
+  pub machine : r .machine ≡ machineAfter m (recordsFrom count trace 0)
+  pub end : r .end ≡ at + length (linesFrom m first (recordsFrom count trace 0))
+  pub bytes : now ≡ sets before at (linesFrom m first (recordsFrom count trace 0))
+  pub within : r .end ≤ at + count * lineRoom

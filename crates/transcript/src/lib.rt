@@ -1,0 +1,214 @@
+// A trace's text: a line for each record, from any machine and number, and the lines that end it.
+ghost use mathlib.Core.Path.{_≡_};
+ghost use mathlib.Core.Bool.{cond};
+ghost use Prim.Native.Nat.{_+_, _*_, _≤_};
+ghost use lib.ListN.{length};
+ghost use lib.Dec.{ltb};
+ghost use Rattle.machine.specs.Step.{machineOf, freshMachine};
+ghost use Rattle.lines.specs.Says.{writtenSays};
+ghost use Rattle.lines.specs.Text.{lineRoom};
+ghost use Rattle.lines.specs.Writing.{Put};
+ghost use Rattle.transcript.specs.Room.{HasRoom, Replays, Fits};
+ghost use Rattle.transcript.specs.Replay.{partRefused, partOf, partBuffer, lastRoom, lastText, textFrom, roomFor, replayOf, replayedOf};
+use error::Refusal;
+use ledger::Ledger;
+use lines::Written;
+use lines::put_end;
+use lines::put_input;
+use lines::put_line;
+use lines::put_tail;
+use machine::Core;
+use machine::Machine;
+use usage::ThreadUsage;
+
+// The most bytes that a trace may have.
+pub const MOST_BYTES: usize = 64000;
+
+// The longest line of a record, the longest lines after the last, and the line that turns a trace away.
+const LINE_ROOM: usize = 75;
+
+const LAST_ROOM: usize = 55;
+
+const INPUT_ROOM: usize = 10;
+
+// Room for the text of any trace.
+pub const MOST_ROOM: usize = MOST_BYTES / 16 * LINE_ROOM + LAST_ROOM;
+
+pub struct Part {
+    pub written: Written,
+    pub machine: Machine,
+}
+
+struct Replayed {
+    pub end: usize,
+    pub machine: Machine,
+}
+
+// The lines of so many records. The thread records stay in one table, of which a step gets and gives back one.
+fn put_records(
+    machine: Machine,
+    first: u64,
+    count: usize,
+    trace: &[u8],
+    out: &mut [u8],
+    at: usize,
+) -> Replayed
+    requires { ⌜ HasRoom first count (now out) at ⌝ }
+    ensures { λ r. ⌜ Replays machine first count (now (trace .entry)) (now (out .entry)) (now (out .exit)) at r ⌝ }
+{
+    let mut core = machine.core();
+    let mut threads = machine.ledger.threads;
+    let mut number = first;
+    let mut left = count;
+    let mut from: usize = 0;
+    let mut end = at;
+    while 0 < left {
+        let decoded = trace::decode(trace, from);
+        let k = machine::slot(core, ThreadUsage::SLOTS, decoded);
+        let usage = threads[k];
+        let stepped = machine::core_step(core, usage, ThreadUsage::SLOTS, decoded);
+        let next = stepped.core;
+        core = next;
+        let outcome = stepped.outcome;
+        // Room was asked for before the first line, so that each one is written.
+        let written = put_line(out, end, number, outcome.number(), outcome.x(), outcome.y());
+        end = written.end();
+        number = number + 1;
+        from = from + 16;
+        left = left - 1;
+        // Just set up: no record goes back, since all are fresh ones.
+        if stepped.fresh {
+            threads = [ThreadUsage::new_idle(); ThreadUsage::SLOTS];
+            continue;
+        }
+        let changed = stepped.usage;
+        threads[k] = changed;
+    }
+    Replayed {
+        end: end,
+        machine: together(core, threads),
+    }
+}
+
+fn together(core: Core, threads: [ThreadUsage; ThreadUsage::SLOTS]) -> Machine
+    ensures { λ r. ⌜ r ≡ machineOf core threads ⌝ }
+{
+    let timer = core.timer;
+    let books = core.books;
+    Machine {
+        ready: core.ready,
+        timer: timer,
+        ledger: Ledger {
+            books: books,
+            threads: threads,
+        },
+    }
+}
+
+// The lines of a part of a trace, from any machine and record number on, so that a trace of any size can be replayed
+// part by part. Bytes after the last whole record are not looked at.
+pub fn put_part(machine: Machine, first: u64, trace: &[u8], out: &mut [u8], at: usize) -> Part
+    ensures answer { λ r. ⌜ r ≡ partOf machine first (now (trace .entry)) (now (out .entry)) at ⌝ }
+    ensures buffer { λ r. ⌜ now (out .exit) ≡ partBuffer machine first (now (trace .entry)) (now (out .entry)) at ⌝ }
+{
+    let count = trace.len() / 16;
+    let numbers = u64::MAX - count as u64;
+    if numbers < first {
+        return turned_away(machine, Refusal::Overflow);
+    }
+    if lacks_lines(out.len(), at, count) {
+        return turned_away(machine, Refusal::NoSpace);
+    }
+    let replayed = put_records(machine, first, count, trace, out, at);
+    let after = replayed.machine;
+    Part {
+        written: Written::Accepted(replayed.end),
+        machine: after,
+    }
+}
+
+fn turned_away(machine: Machine, why: Refusal) -> Part
+    ensures { λ r. ⌜ r ≡ partRefused machine why ⌝ }
+{
+    Part {
+        written: Written::Refused(why),
+        machine: machine,
+    }
+}
+
+// By what is left after `at`: a product or a sum could be too large for a usize.
+fn lacks_lines(length: usize, at: usize, count: usize) -> bool
+    ensures { λ r. ⌜ r ≡ ltb length (at + count * lineRoom) ⌝ }
+{
+    if length < at {
+        return true;
+    }
+    let left = length - at;
+    let lines = left / LINE_ROOM;
+    lines < count
+}
+
+// The lines after the records'. A trace whose last record is short has bytes left over.
+fn put_last(out: &mut [u8], at: usize, left: usize, cycles: u64, reading: u64) -> usize
+    requires { ⌜ at + lastRoom ≤ length (now out) ⌝ }
+    ensures text { λ r. ⌜ Put (now (out .entry)) (now (out .exit)) at r (lastText left cycles reading) ⌝ }
+    ensures room { λ r. ⌜ r ≤ at + lastRoom ⌝ }
+{
+    if left == 0 {
+        return put_end(out, at, cycles, reading).end();
+    }
+    let second = put_tail(out, at).end();
+    put_end(out, second, cycles, reading).end()
+}
+
+// Room enough for the text of any trace of so many bytes.
+pub fn room_for(bytes: usize) -> usize
+    ensures { λ r. ⌜ r ≡ roomFor bytes ⌝ }
+{
+    if MOST_BYTES < bytes {
+        return INPUT_ROOM;
+    }
+    let count = bytes / 16;
+    count * LINE_ROOM + LAST_ROOM
+}
+
+// A machine that is not set up has no cycles and no reading to tell.
+fn if_ready(ready: bool, number: u64) -> u64
+    ensures { λ r. ⌜ r ≡ cond ready number 0 ⌝ }
+{
+    if ready { number } else { 0 }
+}
+
+fn put_whole(trace: &[u8], out: &mut [u8]) -> usize
+    requires { ⌜ Fits (now trace) (now out) ⌝ }
+    ensures text { λ r. do ⌜ Put (now (out .entry)) (now (out .exit)) 0 r (textFrom (freshMachine (← ⟦ThreadUsage::SLOTS⟧ .entry)) (now (trace .entry))) ⌝ }
+    ensures room { λ r. ⌜ r ≤ length (now (out .exit)) ⌝ }
+{
+    let size = trace.len();
+    let count = size / 16;
+    let left = size % 16;
+    let replayed = put_records(machine::fresh(), 0, count, trace, out, 0);
+    let ready = replayed.machine.ready;
+    let timer = replayed.machine.timer;
+    let cycles = if_ready(ready, timer.counter.cycles.0);
+    let reading = if_ready(ready, timer.clock.last.0);
+    put_last(out, replayed.end, left, cycles, reading)
+}
+
+// The whole text of a trace, from the buffer's first byte on. Room is asked for the longest text that so many bytes can
+// have, so that nothing is written where it may not suffice.
+pub fn replay(trace: &[u8], out: &mut [u8]) -> Written
+    ensures answer { λ r. do ⌜ r ≡ replayOf (← ⟦ThreadUsage::SLOTS⟧ .entry) (now (trace .entry)) (now (out .entry)) ⌝ }
+    ensures buffer { λ r. do ⌜ now (out .exit) ≡ replayedOf (← ⟦ThreadUsage::SLOTS⟧ .entry) (now (trace .entry)) (now (out .entry)) ⌝ }
+    ensures room { λ r. ⌜ writtenSays r .value ≤ length (now (out .exit)) ⌝ }
+{
+    let size = trace.len();
+    if MOST_BYTES < size {
+        return put_input(out, 0);
+    }
+    let needed = room_for(size);
+    if out.len() < needed {
+        return Written::Refused(Refusal::NoSpace);
+    }
+    Written::Accepted(put_whole(trace, out))
+}

@@ -5,3 +5,6 @@ pub mod Numbers
 pub mod UpstreamTimer
 pub mod UpstreamThread
 pub mod Outcomes
+pub mod Watching
+pub mod Demand3
+pub mod TraceShown

@@ -5,3 +5,6 @@ pub mod Numbers
 pub mod UpstreamTimer
 pub mod UpstreamThread
 pub mod Outcome
+pub mod Trace
+pub mod Demand3
+pub mod TraceShown

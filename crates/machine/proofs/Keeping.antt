@@ -86,11 +86,11 @@ untouched m d why e n =
     (core-stays (coreOf m) (recordOf (m .ledger) k) (length (m .ledger .threads)) d why e n)
 
 -- rows that have another reason leave the first that holds to those after them
-Others : Reason → List (Row Reason) → Type 0
+unfoldable pub Others : Reason → List (Row Reason) → Type 0
 Others why [] = Unit {0}
 Others why (row ∷ rows) = (row .1 ≡ why → ⊥) × Others why rows
 
-none-before : (why : Reason) (rows more : List (Row Reason)) → Others why rows → FirstIs (rows ++ more) why → NoneHolds rows × FirstIs more why
+pub none-before : (why : Reason) (rows more : List (Row Reason)) → Others why rows → FirstIs (rows ++ more) why → NoneHolds rows × FirstIs more why
 unfolding Others
 none-before why [] more others first = (tt, first)
 none-before why (row ∷ rows) more others (inl here) = absurd (others .0 (here .1))
@@ -107,7 +107,7 @@ module _ (m : Machine) where
   rowsOf task = table c (askedBy (m .ledger .books) slots task)
 
   -- no row of the table, nor the malformed state, is a sum that won't fit
-  passed : (r : Record) → FirstIs (everyRow m (D.Accepted r)) Why.WontFit → (malformed c slots ≡ false) × NoneHolds (rowsOf (taskOf r)) × FirstIs (lastRows m (taskOf r)) Why.WontFit
+  pub passed : (r : Record) → FirstIs (everyRow m (D.Accepted r)) Why.WontFit → (malformed c slots ≡ false) × NoneHolds (rowsOf (taskOf r)) × FirstIs (lastRows m (taskOf r)) Why.WontFit
   unfolding recordRows Others
   passed r (inl here) = clash (let e = here .1 in cc)
   passed r (inr later) =
@@ -115,7 +115,7 @@ module _ (m : Machine) where
       (later .0, rest .0, rest .1)
 
   -- what passes has its effect
-  effect-had : (r : Record) → malformed c slots ≡ false → NoneHolds (rowsOf (taskOf r)) → (k : ℕ) → k ≡ slotOf c slots (D.Accepted r) → stepOf m (D.Accepted r) ≡ steppedFrom (m .ledger .threads) k (effectOf c (recordOf (m .ledger) k) (taskOf r))
+  pub effect-had : (r : Record) → malformed c slots ≡ false → NoneHolds (rowsOf (taskOf r)) → (k : ℕ) → k ≡ slotOf c slots (D.Accepted r) → stepOf m (D.Accepted r) ≡ steppedFrom (m .ledger .threads) k (effectOf c (recordOf (m .ledger) k) (taskOf r))
   unfolding stepOf coreStepOf decodedStep taskStep
   effect-had r whole none k e = rw (e, whole, accepts (turned c (recordOf (m .ledger) (slotOf c slots (D.Accepted r)))) (effectOf c (recordOf (m .ledger) (slotOf c slots (D.Accepted r))) (taskOf r)) (rowsOf (taskOf r)) none) refl
 
@@ -125,16 +125,16 @@ module _ (m : Machine) where
   entered-timer there u (E.Accepted e) = refl
   entered-timer there u (E.Refused why) = refl
 
-  operated-timer : (r : Record) (op : Operation) (g : Gaps) → taskOf r ≡ T.Operate op g → malformed c slots ≡ false → NoneHolds (rowsOf (taskOf r)) → stepOf m (D.Accepted r) .machine .timer ≡ sampleValue (m .timer) g .timer
+  pub operated-timer : (r : Record) (op : Operation) (g : Gaps) → taskOf r ≡ T.Operate op g → malformed c slots ≡ false → NoneHolds (rowsOf (taskOf r)) → stepOf m (D.Accepted r) .machine .timer ≡ sampleValue (m .timer) g .timer
   unfolding effectOf
   operated-timer r op g e whole none = rw (effect-had r whole none _ refl, e) (entered-timer _ _ _)
 
-  sampled-timer : (g : Gaps) → malformed c slots ≡ false → NoneHolds (rowsOf (T.Sample g)) → stepOf m (D.Accepted (K.Sample g)) .machine .timer ≡ sampleValue (m .timer) g .timer
+  pub sampled-timer : (g : Gaps) → malformed c slots ≡ false → NoneHolds (rowsOf (T.Sample g)) → stepOf m (D.Accepted (K.Sample g)) .machine .timer ≡ sampleValue (m .timer) g .timer
   unfolding effectOf taskOf
   sampled-timer g whole none = ap (λ s. s .machine .timer) (effect-had (K.Sample g) whole none _ refl)
 
   -- the tests of an operation are those of its sample, and more
-  sample-passes : (op : Operation) (g : Gaps) → NoneHolds (rowsOf (T.Operate op g)) → NoneHolds (rowsOf (T.Sample g))
+  pub sample-passes : (op : Operation) (g : Gaps) → NoneHolds (rowsOf (T.Operate op g)) → NoneHolds (rowsOf (T.Sample g))
   unfolding askedBy
   sample-passes op g none = (refl, (none .1 .0, (none .1 .1 .0, (refl, (refl, (none .1 .1 .1 .1 .1 .0, (none .1 .1 .1 .1 .1 .1 .0, tt)))))))
 

@@ -3,3 +3,4 @@ pub mod Accepting
 pub mod Shown
 pub mod Refusing
 pub mod Keeping
+pub mod Stepping

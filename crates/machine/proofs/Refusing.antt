@@ -47,7 +47,7 @@ recorded true true false r e = refl
 recorded true false lost r e = absurd (false≢true (sym e))
 recorded false formed lost r e = absurd (false≢true r)
 
-recorded-of : (c : Core) (slots : ℕ) → c .ready ≡ true → malformed c slots ≡ false → unrecorded (c .books) slots ≡ false
+pub recorded-of : (c : Core) (slots : ℕ) → c .ready ≡ true → malformed c slots ≡ false → unrecorded (c .books) slots ≡ false
 unfolding malformed
 recorded-of c slots r e = recorded (c .ready) (wellFormed (c .timer)) (unrecorded (c .books) slots) r e
 
@@ -57,7 +57,7 @@ verdictOf (O.Accepted values) = Y.Passed
 verdictOf (O.Refused why) = Y.Refused why
 
 -- the record concerned is the one at the slot, where the tests let an operation through
-slot-is : (b : Books) (op : Operation) (slots : ℕ) → unrecorded b slots ≡ false → past op slots ≡ false → cond (ltb (concerned b op) slots) (concerned b op) 0 ≡ concerned b op
+pub slot-is : (b : Books) (op : Operation) (slots : ℕ) → unrecorded b slots ≡ false → past op slots ≡ false → cond (ltb (concerned b op) slots) (concerned b op) 0 ≡ concerned b op
 unfolding concerned past unrecorded
 slot-is b (P.Start i) slots e q = simp (lt-ltb i slots (leb-false _ _ q))
 slot-is b (P.Switch i) slots e q = going (eqb (b .stamp) 0) i e (leb-false _ _ q)

@@ -28,7 +28,7 @@ enum Record {
 }
 
 // The first column names the function: from 1 those of upstream's systick.rs, from 7 those of its usage.rs.
-pub fn judged(count: usize, row: Row) -> Verdict {
+pub(crate) fn judged(count: usize, row: Row) -> Verdict {
     let function = row[0];
     if count != columns(function) {
         return Verdict::Unreadable;

@@ -17,7 +17,7 @@ pub struct Line {
 }
 
 impl Line {
-    pub fn new() -> Self {
+    pub(crate) fn new() -> Self {
         Self {
             comment: false,
             unreadable: false,
@@ -29,7 +29,7 @@ impl Line {
     }
 
     // The line with a byte more, which is no line feed.
-    pub fn longer(self, byte: u8) -> Self {
+    pub(crate) fn longer(self, byte: u8) -> Self {
         if self.comment {
             return self;
         }
@@ -42,7 +42,7 @@ impl Line {
     }
 
     // The line once its last number, if one had begun, is whole.
-    pub fn closed(self) -> Self {
+    pub(crate) fn closed(self) -> Self {
         if !self.begun {
             return self;
         }

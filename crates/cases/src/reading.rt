@@ -13,7 +13,7 @@ pub struct Reading {
 }
 
 impl Reading {
-    pub fn new() -> Self {
+    pub(crate) fn new() -> Self {
         Self {
             at: 1,
             line: Line::new(),
@@ -21,7 +21,7 @@ impl Reading {
         }
     }
 
-    pub fn with_bytes(self, bytes: &[u8]) -> Self {
+    pub(crate) fn with_bytes(self, bytes: &[u8]) -> Self {
         let mut reading = self;
         let mut i = 0;
         while i < bytes.len() {
@@ -32,7 +32,7 @@ impl Reading {
     }
 
     // The last line may lack its line feed, so the end of the list ends a line too.
-    pub fn ended(self) -> Tally {
+    pub(crate) fn ended(self) -> Tally {
         let whole = self.with_line();
         whole.tally
     }

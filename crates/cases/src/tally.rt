@@ -12,7 +12,7 @@ pub struct Tally {
 }
 
 impl Tally {
-    pub fn new() -> Self {
+    pub(crate) fn new() -> Self {
         Self {
             rows: 0,
             differ: 0,
@@ -22,7 +22,7 @@ impl Tally {
     }
 
     // The tally with a line's verdict. One that is not agreement is told at once.
-    pub fn with(self, verdict: Verdict, function: u64, line: u64) -> Self {
+    pub(crate) fn with(self, verdict: Verdict, function: u64, line: u64) -> Self {
         match verdict {
             Verdict::Agrees => self.with_agreeing(function as usize),
             Verdict::Differs => {
@@ -37,7 +37,7 @@ impl Tally {
     }
 
     // A line for each function, by upstream's name, and the last line.
-    pub fn say(self) {
+    pub(crate) fn say(self) {
         let agreed = self.agreed;
         say_systick(agreed);
         say_usage(agreed);
@@ -74,7 +74,7 @@ impl Tally {
 }
 
 // One more, as far as 64 bits go.
-pub fn more(count: u64) -> u64 {
+pub(crate) fn more(count: u64) -> u64 {
     if count < u64::MAX { count + 1 } else { count }
 }
 

@@ -6,7 +6,7 @@ ghost use lib.Seq.{sets};
 ghost use lib.Dec.{ltb};
 
 // By what is left after `at`: a sum could be too large for a usize.
-pub fn lacks_room(length: usize, at: usize, size: usize) -> bool
+pub(crate) fn lacks_room(length: usize, at: usize, size: usize) -> bool
     ensures { λ r. ⌜ r ≡ ltb length (at + size) ⌝ }
 {
     if length < at {
@@ -16,7 +16,7 @@ pub fn lacks_room(length: usize, at: usize, size: usize) -> bool
     left < size
 }
 
-pub fn put_letters(out: &mut [u8], at: usize, letters: &[u8])
+pub(crate) fn put_letters(out: &mut [u8], at: usize, letters: &[u8])
     requires { ⌜ at + length (now letters) ≤ length (now out) ⌝ }
     ensures { λ r. ⌜ now (out .exit) ≡ sets (now (out .entry)) at (now (letters .entry)) ⌝ }
 {

@@ -20,7 +20,7 @@ fn magnitude(code: i32) -> u64
     wide as u64
 }
 
-pub fn code_places(code: i32) -> usize
+pub(crate) fn code_places(code: i32) -> usize
     ensures { λ r. ⌜ r ≡ length (signed code) ⌝ }
 {
     let number = magnitude(code);
@@ -32,7 +32,7 @@ pub fn code_places(code: i32) -> usize
 }
 
 // A code and the byte after it.
-pub fn put_code(out: &mut [u8], at: usize, code: i32, size: usize, after: u8) -> usize
+pub(crate) fn put_code(out: &mut [u8], at: usize, code: i32, size: usize, after: u8) -> usize
     requires { ⌜ Room (now out) at size 1 (signed code) ⌝ }
     ensures { λ r. ⌜ Put (now (out .entry)) (now (out .exit)) at r (signed code ++ after ∷ []) ⌝ }
 {

@@ -25,7 +25,7 @@ fn few_places(number: u64) -> usize
 }
 
 // Four places a turn, since each turn costs a division.
-pub fn places(number: u64) -> usize
+pub(crate) fn places(number: u64) -> usize
     ensures { λ r. ⌜ r ≡ length (decimal number) ⌝ }
 {
     let mut left = number;
@@ -56,7 +56,7 @@ fn put_digits(out: &mut [u8], at: usize, number: u64, size: usize)
 }
 
 // A number and the byte after it.
-pub fn put_number(out: &mut [u8], at: usize, number: u64, size: usize, after: u8) -> usize
+pub(crate) fn put_number(out: &mut [u8], at: usize, number: u64, size: usize, after: u8) -> usize
     requires { ⌜ Room (now out) at size 1 (decimal number) ⌝ }
     ensures { λ r. ⌜ Put (now (out .entry)) (now (out .exit)) at r (decimal number ++ after ∷ []) ⌝ }
 {

@@ -50,7 +50,7 @@ fn done(core: Core, usage: ThreadUsage, x: u64, y: u64) -> CoreStep
     }
 }
 
-pub fn turned_away(core: Core, usage: ThreadUsage, why: Reason) -> CoreStep
+pub(crate) fn turned_away(core: Core, usage: ThreadUsage, why: Reason) -> CoreStep
     ensures { λ r. ⌜ r ≡ turned core usage why ⌝ }
 {
     CoreStep {
@@ -173,7 +173,7 @@ fn setup_effect(core: Core, usage: ThreadUsage, setup: Setup) -> CoreStep
     }
 }
 
-pub fn effect(core: Core, usage: ThreadUsage, task: Task) -> CoreStep
+pub(crate) fn effect(core: Core, usage: ThreadUsage, task: Task) -> CoreStep
     requires { ⌜ Accepts core task ⌝ }
     ensures { λ r. ⌜ r ≡ effectOf core usage task ⌝ }
 {

@@ -14,7 +14,7 @@ pub enum Verdict {
     Refused(Reason),
 }
 
-pub fn malformed(core: Core, slots: usize) -> bool
+pub(crate) fn malformed(core: Core, slots: usize) -> bool
     ensures { λ r. ⌜ r ≡ malformed core slots ⌝ }
 {
     let timer = core.timer;
@@ -41,7 +41,7 @@ fn cycles_above(timer: Timer, cycles: u64) -> bool
 }
 
 // 01's table, row by row: the first test that holds turns the record away, and nothing has been touched.
-pub fn tested(core: Core, asked: Asked) -> Verdict
+pub(crate) fn tested(core: Core, asked: Asked) -> Verdict
     ensures { λ r. ⌜ r ≡ testedOf core asked ⌝ }
 {
     let timer = core.timer;

@@ -31,7 +31,7 @@ pub struct Asked {
     pub cycles: u64,
 }
 
-pub fn task_of(decoded: Record) -> Task
+pub(crate) fn task_of(decoded: Record) -> Task
     ensures { λ r. ⌜ r ≡ taskOf decoded ⌝ }
 {
     match decoded {
@@ -115,7 +115,7 @@ fn asks_setup(setup: Setup) -> Asked
     asked
 }
 
-pub fn asked_by(books: Books, slots: usize, task: Task) -> Asked
+pub(crate) fn asked_by(books: Books, slots: usize, task: Task) -> Asked
     ensures { λ r. ⌜ r ≡ askedBy books slots task ⌝ }
 {
     match task {
@@ -128,7 +128,7 @@ pub fn asked_by(books: Books, slots: usize, task: Task) -> Asked
     }
 }
 
-pub fn thread_of(books: Books, task: Task) -> u32
+pub(crate) fn thread_of(books: Books, task: Task) -> u32
     ensures { λ r. ⌜ r ≡ threadOf books task ⌝ }
 {
     match task {

@@ -11,7 +11,7 @@ pub enum Input {
 }
 
 // A read may bring less than there is room for, as from a pipe; only one that brings nothing is the end.
-pub fn read_trace(fd: i32, trace: &mut [u8]) -> Input
+pub(crate) fn read_trace(fd: i32, trace: &mut [u8]) -> Input
     ensures { λ r. ⌜ Within (now (trace .exit)) r ⌝ }
 {
     let mut done: usize = 0;

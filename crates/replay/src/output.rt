@@ -2,7 +2,7 @@
 use lines::Written;
 
 // Room for the lines of any trace is lent, and all of them fit.
-pub fn write_lines(trace: &[u8]) {
+pub(crate) fn write_lines(trace: &[u8]) {
     let mut text = [0u8; transcript::MOST_ROOM];
     let written = transcript::replay(trace, &mut text);
     let Written::Accepted(length) = written else {
@@ -13,7 +13,7 @@ pub fn write_lines(trace: &[u8]) {
     write_text(&text[start..length]);
 }
 
-pub fn complain(line: &[u8]) {
+pub(crate) fn complain(line: &[u8]) {
     io::write_all(libc::STDERR_FILENO, line);
 }
 

@@ -30,7 +30,7 @@ struct Read {
 }
 
 // The lines from this one on, to the next case.
-pub fn build(list: &[u8], from: usize, trace: &mut [u8]) -> Built {
+pub(crate) fn build(list: &[u8], from: usize, trace: &mut [u8]) -> Built {
     let mut size: usize = 0;
     let mut at = from;
     while at < list.len() {

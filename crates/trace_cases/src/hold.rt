@@ -22,7 +22,7 @@ enum Wanted {
 }
 
 // A text that goes on behind the case's last line differs too.
-pub fn hold(list: &[u8], from: usize, text: &[u8]) -> Held {
+pub(crate) fn hold(list: &[u8], from: usize, text: &[u8]) -> Held {
     let held = hold_lines(list, from, text);
     let Held::To(place) = held else {
         return held;

@@ -7,7 +7,7 @@ pub enum Input {
 }
 
 // A read may bring less than there is room for, as from a pipe; only one that brings nothing is the end.
-pub fn read_list(fd: i32, list: &mut [u8]) -> Input {
+pub(crate) fn read_list(fd: i32, list: &mut [u8]) -> Input {
     let mut done: usize = 0;
     while done < list.len() {
         let got = libc::read(fd, &mut list[done..]);

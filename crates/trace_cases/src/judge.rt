@@ -15,7 +15,7 @@ pub enum Verdict {
 }
 
 // The case whose lines begin here. What comes of it is told at once.
-pub fn judge(list: &[u8], from: usize) -> Verdict {
+pub(crate) fn judge(list: &[u8], from: usize) -> Verdict {
     let mut trace = [0u8; MOST];
     match build(list, from, &mut trace) {
         Built::Size(size) => judge_trace(list, from, &trace, size),

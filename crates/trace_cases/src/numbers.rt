@@ -15,7 +15,7 @@ pub enum Repeat {
     Unreadable,
 }
 
-pub fn number_at(list: &[u8], from: usize) -> Found {
+pub(crate) fn number_at(list: &[u8], from: usize) -> Found {
     let at = past_spaces(list, from);
     let byte = byte_at(list, at);
     match byte {
@@ -26,7 +26,7 @@ pub fn number_at(list: &[u8], from: usize) -> Found {
 }
 
 // Two numbers and no more, each at most the records of the longest trace.
-pub fn repeat_at(list: &[u8], from: usize) -> Repeat {
+pub(crate) fn repeat_at(list: &[u8], from: usize) -> Repeat {
     let Found::Number(records, second) = number_at(list, from) else {
         return Repeat::Unreadable;
     };
@@ -45,7 +45,7 @@ pub fn repeat_at(list: &[u8], from: usize) -> Repeat {
     Repeat::Again(records as u16, times as u16)
 }
 
-pub fn past_spaces(list: &[u8], from: usize) -> usize {
+pub(crate) fn past_spaces(list: &[u8], from: usize) -> usize {
     let mut at = from;
     while at < list.len() {
         if list[at] != b' ' {

@@ -14,7 +14,7 @@ pub struct Fields {
     pub r: u64,
 }
 
-pub fn with_field(fields: Fields, field: u8, number: u64) -> Fields {
+pub(crate) fn with_field(fields: Fields, field: u8, number: u64) -> Fields {
     let mut next = fields;
     match field {
         KIND => next.kind = number,
@@ -27,14 +27,14 @@ pub fn with_field(fields: Fields, field: u8, number: u64) -> Fields {
 }
 
 // Whether a field can hold the number; there is none after r.
-pub fn takes(field: u8, number: u64) -> bool {
+pub(crate) fn takes(field: u8, number: u64) -> bool {
     if field < P {
         return number <= 255;
     }
     (field <= R) & (number <= 4294967295)
 }
 
-pub fn put_record(trace: &mut [u8], size: usize, fields: Fields) -> usize {
+pub(crate) fn put_record(trace: &mut [u8], size: usize, fields: Fields) -> usize {
     let second = put_byte(trace, size, fields.kind);
     let third = put_byte(trace, second, fields.thread);
     let fourth = put_byte(trace, third, 0);
@@ -52,7 +52,7 @@ fn put_word(trace: &mut [u8], size: usize, word: u64) -> usize {
 }
 
 // Puts the lowest eight bits. A trace that is full stays as it is: that it is as long as can be shows in its text.
-pub fn put_byte(trace: &mut [u8], size: usize, number: u64) -> usize {
+pub(crate) fn put_byte(trace: &mut [u8], size: usize, number: u64) -> usize {
     if size < trace.len() {
         trace[size] = (number % 256) as u8;
         return size + 1;
@@ -61,7 +61,7 @@ pub fn put_byte(trace: &mut [u8], size: usize, number: u64) -> usize {
 }
 
 // The last bytes, so many times more.
-pub fn put_copies(trace: &mut [u8], size: usize, back: usize, times: u16) -> usize {
+pub(crate) fn put_copies(trace: &mut [u8], size: usize, back: usize, times: u16) -> usize {
     let mut end = size;
     let mut left = times;
     while 0 < left {

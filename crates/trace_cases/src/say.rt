@@ -3,18 +3,18 @@ use crate::text::line_end;
 use crate::text::line_number;
 use libc::STDOUT_FILENO;
 
-pub fn say(text: &[u8]) {
+pub(crate) fn say(text: &[u8]) {
     io::write_all(STDOUT_FILENO, text);
 }
 
-pub fn count(before: &[u8], number: u64, after: &[u8]) {
+pub(crate) fn count(before: &[u8], number: u64, after: &[u8]) {
     say(before);
     io::print_decimal(STDOUT_FILENO, number);
     say(after);
 }
 
 // The rest of a line, without its line feed.
-pub fn rest(text: &[u8], from: usize) {
+pub(crate) fn rest(text: &[u8], from: usize) {
     if text.len() < from {
         return;
     }
@@ -22,7 +22,7 @@ pub fn rest(text: &[u8], from: usize) {
     say(&text[from..end]);
 }
 
-pub fn unreadable(list: &[u8], place: usize) {
+pub(crate) fn unreadable(list: &[u8], place: usize) {
     count(
         b": line ",
         line_number(list, place),
@@ -31,7 +31,7 @@ pub fn unreadable(list: &[u8], place: usize) {
 }
 
 // The line that the text has there; at its end it has none.
-pub fn differs(text: &[u8], place: usize) {
+pub(crate) fn differs(text: &[u8], place: usize) {
     count(
         b": differs, line ",
         line_number(text, place),

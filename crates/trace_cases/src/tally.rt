@@ -15,7 +15,7 @@ pub struct Tally {
 }
 
 impl Tally {
-    pub fn say(self) {
+    pub(crate) fn say(self) {
         say::count(b"", self.traces, b" traces, ");
         say::count(b"", self.differ, b" differ");
         if self.unreadable > 0 {
@@ -37,7 +37,7 @@ impl Tally {
 }
 
 // What stands before the first case is its heading and is not looked at.
-pub fn run(list: &[u8]) -> Tally {
+pub(crate) fn run(list: &[u8]) -> Tally {
     let mut tally = Tally {
         traces: 0,
         differ: 0,

@@ -3,14 +3,14 @@ ghost use Prim.Native.Nat.{_<_, _≤_};
 ghost use lib.ListN.{length};
 
 // The text's end reads as the end of a line: the last one may lack its line feed.
-pub fn byte_at(text: &[u8], at: usize) -> u8 {
+pub(crate) fn byte_at(text: &[u8], at: usize) -> u8 {
     if at < text.len() {
         return text[at];
     }
     b'\n'
 }
 
-pub fn line_end(text: &[u8], from: usize) -> usize
+pub(crate) fn line_end(text: &[u8], from: usize) -> usize
     requires { ⌜ from ≤ length (now text) ⌝ }
     ensures { λ r. ⌜ from ≤ r ⌝ }
     ensures { λ r. ⌜ r ≤ length (now (text .entry)) ⌝ }
@@ -26,7 +26,7 @@ pub fn line_end(text: &[u8], from: usize) -> usize
 }
 
 // Where the line after this one begins, or the text's end.
-pub fn next_line(text: &[u8], from: usize) -> usize
+pub(crate) fn next_line(text: &[u8], from: usize) -> usize
     requires { ⌜ from < length (now text) ⌝ }
     ensures { λ r. ⌜ from < r ⌝ }
 {
@@ -38,7 +38,7 @@ pub fn next_line(text: &[u8], from: usize) -> usize
 }
 
 // The number from 1 of the line that a place is on.
-pub fn line_number(text: &[u8], place: usize) -> u64 {
+pub(crate) fn line_number(text: &[u8], place: usize) -> u64 {
     let mut number: u64 = 1;
     let mut at: usize = 0;
     while at < text.len() {
@@ -54,12 +54,12 @@ pub fn line_number(text: &[u8], place: usize) -> u64 {
 }
 
 // One more, as far as 64 bits go.
-pub fn more(count: u64) -> u64 {
+pub(crate) fn more(count: u64) -> u64 {
     if count < u64::MAX { count + 1 } else { count }
 }
 
 // Whether a word stands here, and no longer one: the word among `words` that begins at `first` and ends before a space.
-pub fn has_word(text: &[u8], from: usize, words: &[u8], first: usize) -> bool {
+pub(crate) fn has_word(text: &[u8], from: usize, words: &[u8], first: usize) -> bool {
     let mut at = from;
     let mut i = first;
     while i < words.len() {
@@ -80,7 +80,7 @@ pub fn has_word(text: &[u8], from: usize, words: &[u8], first: usize) -> bool {
 }
 
 // The place after the letters that begin here.
-pub fn word_end(text: &[u8], from: usize) -> usize {
+pub(crate) fn word_end(text: &[u8], from: usize) -> usize {
     let mut at = from;
     while at < text.len() {
         if !is_letter(text[at]) {

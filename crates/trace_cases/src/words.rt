@@ -23,11 +23,11 @@ pub const Q: u8 = 3;
 
 pub const R: u8 = 4;
 
-pub fn begins_case(list: &[u8], at: usize) -> bool {
+pub(crate) fn begins_case(list: &[u8], at: usize) -> bool {
     has_word(list, at, b"trace ", 0)
 }
 
-pub fn word_at(list: &[u8], at: usize) -> Word {
+pub(crate) fn word_at(list: &[u8], at: usize) -> Word {
     let byte = byte_at(list, at);
     match byte {
         b'\n' | b'>' | b'#' => Word::Nothing,

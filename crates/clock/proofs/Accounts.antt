@@ -1,9 +1,9 @@
 -- With no premises: what a run from setup keeps between its events, and what it shows at each.
 use Prim.Native.Nat.{ℕ, zero, suc, _+_, _-_, _*_, _/_, _%_, _≤_, _<_}
-use mathlib.Core.Path.{_≡_, refl, ap, _∙_}
+use mathlib.Core.Path.{_≡_, refl, sym, ap, _∙_}
 use mathlib.Core.Bool.{Bool, true, false, cond, false≢true}
 use native.Mathlib.Omega.{arith}
-use native.Mathlib.Nat.{add-mul, one-mul, zero-mul, suc-mul, div-add-mod', mod-lt, add-mul-mod-self-right, zero-mod, mul-mod-left, div-lt-iff-lt-mul}
+use native.Mathlib.Nat.{add-mul, one-mul, zero-mul, suc-mul, div-add-mod', mod-lt, add-mul-mod-self-right, zero-mod, mul-mod-left, div-lt-iff-lt-mul, div-eq-of-lt-le}
 use borrow.Author.Tests.{le-leb}
 use Rattle.error.specs.Numbers.{max32, max64}
 use Rattle.counter.specs.Cycle.{runN}
@@ -156,6 +156,7 @@ module _ (l seen : ℕ) (t : Timer) (k : Accounts l seen t) where
         within = omega arith;
         largest = omega arith;
         periods = k .periods;
+        whole = k .periods ∙ ap (λ (n : ℕ). n * l) (sym (div-eq-of-lt-le l (let e = k .periods in let h = k .low in omega arith) (let e = k .periods in let h = k .high in omega (arith, add-mul seen 1 l, one-mul l))));
         behind = k .low;
         lag = omega (arith, k .owes .valid .least);
       }

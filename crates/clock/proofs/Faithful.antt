@@ -109,7 +109,7 @@ module _ (l before since : ℕ) (t : Timer) (k : Faithful l before since t) wher
             record {
               valid = rw e (valid-cleared (s .d .valid));
               total = rw e (omega (arith, k .valid .period, sums _ _ _ l true n));
-              flag = rw (e, fair .none-to-D e);
+              flag = rw (e, fair .none-to-D (omega arith));
               counted = rw e (omega (arith, k .valid .period, k .counted, more before since (wrapsAC a g) l true n));
             }
         by-wrap false e n =

@@ -100,9 +100,11 @@ every-run period tick good es =
       set-up = set-up period tick (good-of-bounds period (good .least) (good .most)) (λ none. let some = good .ticks in omega arith);
       always = record {
         formed = accounts.formed period (w .seen) (w .timer) (k .accounts);
+        fits = k .accounts .fits;
         never-ahead = k .never-ahead;
         announce-accepted = (_, accounts.accepts period (w .seen) (w .timer) (k .accounts));
         sample-accepted = λ g room fits. (_, sampled (w .timer) g (accounts.formed period (w .seen) (w .timer) (k .accounts)) room fits);
+        same-tick = k .same-tick;
         last = k .last;
         announced = k .told;
       };

@@ -20,7 +20,7 @@ shown = record {
   late = (refl, refl);
   late-alone = (omega arith, λ one. omega arith, λ wrap. refl);
   lost = (refl, refl);
-  lost-alone = (omega arith, omega arith, λ none. let clash = none refl in omega arith);
+  lost-alone = (omega arith, omega arith, λ none. let clash = none (omega arith) in omega arith);
   lost-then-fair = record { quick = omega arith; one-wrap = omega arith; none-to-D = λ wrap. refl };
   far-fair = omega arith;
   attained = refl;

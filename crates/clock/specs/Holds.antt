@@ -1,5 +1,5 @@
 -- What holds of every run of counter and clock from setup, after any list of events.
-use Prim.Native.Nat.{ℕ, _+_, _-_, _*_, _%_, _≤_, _<_}
+use Prim.Native.Nat.{ℕ, _+_, _-_, _*_, _/_, _%_, _≤_, _<_}
 use mathlib.Core.Path.{_≡_}
 use mathlib.Core.List.{List}
 use mathlib.Core.Bool.{true}
@@ -31,6 +31,7 @@ pub record NeverAhead (period read cycles : ℕ) : Type 0 where
 pub record Always (period tick : ℕ) (w : World) : Type 0 where
   -- no run from setup is taken for malformed
   pub formed : wellFormed (w .timer) ≡ true
+  pub fits : w .timer .counter .cycles .0 ≤ max64
   pub never-ahead : NeverAhead period (w .read) (w .cyclesC)
   pub announce-accepted : (a : Announcement) × (announceOf (w .timer) ≡ A.Accepted a)
   -- a sample is accepted unless the overflow has no room for it or T would pass 2^64 - 1
@@ -39,6 +40,7 @@ pub record Always (period tick : ℕ) (w : World) : Type 0 where
       w .timer .clock .overflow + 2 * w .timer .counter .period - 1 ≤ max32 →
       w .timer .counter .cycles .0 + (g .p + g .q + g .r) ≤ max64 →
       (taken : SampleTaken) × (sampleOf (w .timer) g ≡ S.Accepted taken)
+  pub same-tick : w .timer .clock .tick ≡ tick
   -- what is stored is what was answered
   pub last : w .timer .clock .last .0 ≡ w .read
   pub announced : w .timer .clock .announced .0 ≡ w .told * tick
@@ -51,6 +53,8 @@ pub record Tells (period tick announced count read seen : ℕ) : Type 0 where
   pub largest : count < announced + tick
   -- count is the period times the samples so far that answered a wrap
   pub periods : count ≡ seen * period
+  -- which is every whole period within the last reading
+  pub whole : count ≡ read / period * period
   pub behind : count ≤ read
   pub lag : read ≤ announced + (period + tick - 2)
 

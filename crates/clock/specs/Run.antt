@@ -1,8 +1,8 @@
 -- Runs of counter and clock from setup: cycles, samples and announcements, refused ones included.
-use Prim.Native.Nat.{ℕ, _+_, _-_, _≤_, _<_}
+use Prim.Native.Nat.{ℕ, _+_, _≤_, _<_}
 use mathlib.Core.Path.{_≡_}
 use mathlib.Core.List.{List, [], _∷_}
-use mathlib.Core.Bool.{true, cond}
+use mathlib.Core.Bool.{cond}
 use Rattle.counter.specs.declared.Counter.{Counter}
 use Rattle.counter.specs.declared.Ran.{Ran}
 use Rattle.counter.specs.declared.Ran.the-variants as R
@@ -15,7 +15,7 @@ use Rattle.clock.specs.declared.Sampled.the-variants as S
 use Rattle.clock.specs.declared.Announced.{Announced}
 use Rattle.clock.specs.declared.Announced.the-variants as A
 use Rattle.clock.specs.Timer.{setup}
-use Rattle.clock.specs.Sample.{atB, atC, decision, sampleOf}
+use Rattle.clock.specs.Sample.{atB, atC, sampleOf}
 use Rattle.clock.specs.Announce.{announceOf}
 
 pub data Event : Type 0 where
@@ -80,20 +80,20 @@ unfoldable pub after : List Event → World → World
 after [] w = w
 after (e ∷ es) w = after es (step e w)
 
--- Demand 3's premises on a sample: it takes less than a period; at most one wrap since the last C; none from C to D where D happens.
+-- Demand 3's premises on a sample: it takes less than a period; at most one wrap since the last C; where there was one, none from C to D.
 abbrev pub Quick : Timer → Gaps → Type 0
 Quick t g = g .p + g .q < t .counter .period
 
 abbrev pub OneWrap : ℕ → Timer → Gaps → Type 0
 OneWrap since t g = since + wrapsAC (t .counter) g ≤ 1
 
-abbrev pub NoneToD : Timer → Gaps → Type 0
-NoneToD t g = decision t g .«wrap_detected» ≡ true → wraps (g .r) (atC (t .counter) g) ≡ 0
+abbrev pub NoneToD : ℕ → Timer → Gaps → Type 0
+NoneToD since t g = 1 ≤ since + wrapsAC (t .counter) g → wraps (g .r) (atC (t .counter) g) ≡ 0
 
 pub record FairSample (since : ℕ) (t : Timer) (g : Gaps) : Type 0 where
   pub quick : Quick t g
   pub one-wrap : OneWrap since t g
-  pub none-to-D : NoneToD t g
+  pub none-to-D : NoneToD since t g
 
 -- an event is fair unless it is a sample that breaks a premise; a refused sample touches nothing, so nothing is asked of it
 abbrev pub FairIf : World → Gaps → Sampled → Type 0

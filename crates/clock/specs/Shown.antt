@@ -39,13 +39,13 @@ pub record Shown : Type 0 where
   pub printed-reads : (after printed (start 10 4) .read ≡ 23) × (after printed (start 10 4) .timer .counter .cycles .0 ≡ 23)
   -- a sample that takes a whole period, and breaks no other premise, reads 0 at 10 cycles
   pub slow : Reads (start 10 4) (gaps 0 10 0) 0 10
-  pub slow-alone : (Quick (start 10 4 .timer) (gaps 0 10 0) → ⊥) × OneWrap 0 (start 10 4 .timer) (gaps 0 10 0) × NoneToD (start 10 4 .timer) (gaps 0 10 0)
+  pub slow-alone : (Quick (start 10 4 .timer) (gaps 0 10 0) → ⊥) × OneWrap 0 (start 10 4 .timer) (gaps 0 10 0) × NoneToD 0 (start 10 4 .timer) (gaps 0 10 0)
   -- two wraps since the last C, and no other premise broken: reads 10 at 20 cycles
   pub late : Reads unsampled (gaps 0 0 0) 10 20
-  pub late-alone : Quick (unsampled .timer) (gaps 0 0 0) × (OneWrap (unsampled .since) (unsampled .timer) (gaps 0 0 0) → ⊥) × NoneToD (unsampled .timer) (gaps 0 0 0)
+  pub late-alone : Quick (unsampled .timer) (gaps 0 0 0) × (OneWrap (unsampled .since) (unsampled .timer) (gaps 0 0 0) → ⊥) × NoneToD (unsampled .since) (unsampled .timer) (gaps 0 0 0)
   -- a wrap between C and D, and no other premise broken: the next sample, fair itself, reads 10 at 20 cycles
   pub lost : Reads cleared-away (gaps 0 0 0) 10 20
-  pub lost-alone : Quick (wrapped .timer) (gaps 0 0 10) × OneWrap (wrapped .since) (wrapped .timer) (gaps 0 0 10) × (NoneToD (wrapped .timer) (gaps 0 0 10) → ⊥)
+  pub lost-alone : Quick (wrapped .timer) (gaps 0 0 10) × OneWrap (wrapped .since) (wrapped .timer) (gaps 0 0 10) × (NoneToD (wrapped .since) (wrapped .timer) (gaps 0 0 10) → ⊥)
   pub lost-then-fair : FairSample (cleared-away .since) (cleared-away .timer) (gaps 0 0 0)
   -- the lag is attained in a fair run: period 3, tick 2
   pub far-fair : Fair far (start 3 2)

@@ -1,118 +1,91 @@
 -- Demand 3 over whole traces, from what the clock's and the ledger's runs are known to do.
-use Prim.Native.Nat.{ℕ, _<_}
-use mathlib.Core.Path.{_≡_, refl, sym, ap, _∙_, subst}
-use mathlib.Core.Bool.{Bool, true, false, not, _&&_}
-use mathlib.Core.List.{[], _∷_, _++_}
-use mathlib.Core.Logic.{inl, inr}
-use lib.ListN.{length, length-replicate}
-use lib.Dec.{eqb}
-use borrow.Author.Tests.{lt-leb, eq-eqb}
-use Rattle.error.proofs.Tests.{clash}
-use Rattle.error.specs.declared.Refusal.{Refusal}
-use Rattle.error.specs.InOrder.{FirstIs}
-use Rattle.usage.specs.Record.{newIdle}
+use Prim.Native.Nat.{ℕ, _+_, _*_, _<_}
+use mathlib.Core.Path.{_≡_, refl, sym, ap, _∙_}
+use native.Mathlib.Omega.{arith}
+use Rattle.clock.specs.declared.Gaps.{Gaps}
 use Rattle.clock.specs.declared.Timer.{Timer}
-use Rattle.clock.specs.Announce.{announceOf}
+use Rattle.clock.specs.declared.Announced.the-variants as N
+use Rattle.clock.specs.Announce.{announcementFrom, announceOf}
 use Rattle.clock.specs.Run as clock
-use Rattle.clock.specs.Holds.{GoodSetup, Tells, AnnouncedIn}
+use Rattle.clock.specs.Holds.{GoodSetup, Tells}
 use Rattle.clock.proofs.Runs as clock-runs
-use Rattle.ledger.specs.declared.Books.{Books}
-use Rattle.ledger.specs.Operate.{unrecorded}
-use Rattle.ledger.specs.Run as ledger
-use Rattle.ledger.specs.Holds.{Marked}
 use Rattle.ledger.proofs.Agreeing as ledger-runs
 use Rattle.trace.specs.declared.Record.the-variants as K
 use Rattle.trace.specs.declared.Decoded.the-variants as D
 use Rattle.machine.specs.declared.Values.{Values}
-use Rattle.machine.specs.declared.Reason.the-variants as Why
 use Rattle.machine.specs.declared.Outcome.the-variants as Told
-use Rattle.machine.specs.Task.{taskOf, askedBy}
-use Rattle.machine.specs.Table.{malformed, table}
-use Rattle.machine.specs.Step.{coreOf, stepOf}
-use Rattle.machine.specs.Laws.{announceRows, lastRows, recordRows}
-use Rattle.machine.proofs.Keeping.{every-refusal, Others, none-before}
-use Rattle.demands.specs.Trace.{Watched, touches, watch, watchAll, setUp}
-use Rattle.demands.specs.Demand3.{Always, Fairly, Demand3}
-use Rattle.demands.proofs.Watching.{Same, True, announces, on-and-on, watch-same, all-same, all-true, begin-true, after-slots}
-
--- a mark that is an onlooker's has a record
-recorded : (slots : ℕ) (b : Books) (stretch : ledger.Open) → Marked slots b stretch → unrecorded b slots ≡ false
-unfolding unrecorded
-recorded slots b ledger.none mark = rw (eq-eqb (b .stamp) 0 mark) refl
-recorded slots b (ledger.since i from) mark = rw (mark .1, lt-leb slots i (mark .2)) (and-false (not (eqb (b .stamp) 0)))
-  where
-    and-false : (t : Bool) → t && false ≡ false
-    and-false true = refl
-    and-false false = refl
-
--- the same numbers, told of the machine
-tells-as : {period tick : ℕ} (x : clock.World) {timer : Timer} {seen : ℕ} → AnnouncedIn period tick x → x .timer ≡ timer → x .timer .clock .last .0 ≡ x .read → x .seen ≡ seen → Tells period tick (timer .clock .announced .0) (timer .clock .count .0) (timer .clock .last .0) seen
-tells-as {period} {tick} x {timer} told e last es = subst (λ (n : ℕ). Tells period tick (timer .clock .announced .0) (timer .clock .count .0) (timer .clock .last .0) n) es (subst (λ (t : Timer). Tells period tick (t .clock .announced .0) (t .clock .count .0) (t .clock .last .0) (x .seen)) e (rw last told))
+use Rattle.machine.specs.Step.{stepOf}
+use Rattle.machine.specs.Laws as laws
+use Rattle.machine.specs.Laws.{answerTo, leftBy}
+use Rattle.machine.proofs.Answering.{announcement-is, every-answer}
+use Rattle.machine.proofs.Stepping.{sample-accepted, touches-accepted}
+use Rattle.demands.specs.Trace.{Watched, timeC, FairSample, watchAll, setUp}
+use Rattle.demands.specs.Demand3.{LargestMultiple, Announces, Always, Fairly, Demand3}
+use Rattle.demands.proofs.Watching.{Same, announces, all-same, begin-same}
+use Rattle.demands.proofs.Following.{True, reads-true, all-true, begin-true}
 
 module _ {slots period tick : ℕ} (some : 0 < slots) (good : GoodSetup period tick) (w : Watched) (same : Same slots period tick w) where
-  abbrev at : clock.World
-  at = clock.after (same .events) (clock.start period tick)
+  abbrev world : clock.World
+  world = clock.after (same .events) (clock.start period tick)
 
-  timer-at : w .machine .timer ≡ at .timer
-  timer-at = same .timer ∙ ap (λ (x : clock.World). x .timer) (same .run)
+  abbrev timer : Timer
+  timer = w .machine .timer
 
-  table-size : length (w .machine .ledger .threads) ≡ slots
-  table-size = rw (same .entered) (after-slots (same .entries) (ledger.begin slots) ∙ length-replicate slots newIdle)
+  -- what the clock's run tells of an announcement here
+  told : Tells period tick (laws.announces (w .machine) .«new_announced_cycles» .0) (laws.announces (w .machine) .«new_cycle_count» .0) (timer .clock .last .0) (world .seen)
+  unfolding clock.step
+  told =
+      let a = announces some good w same in
+      let run = clock-runs.every-run period tick good (same .events) in
+      let there : announceOf (world .timer) ≡ N.Accepted (announcementFrom timer (laws.announces (w .machine))) =
+      ap announceOf (sym (same .timer)) ∙ (a .1 ∙ ap N.Accepted (announcement-is timer (a .0) (a .1))) in
+      let last : timer .clock .last .0 ≡ world .read = ap (λ (t : Timer). t .clock .last .0) (same .timer) ∙ run .always .last in
+      rw last (rw there at (run .announcements))
 
-  whole : malformed (coreOf (w .machine)) (length (w .machine .ledger .threads)) ≡ false
-  unfolding malformed
-  whole =
-      let books = ledger-runs.every-run slots some (same .entries) .0 .mark in
-      let formed = clock-runs.every-run period tick good (same .events) .always .formed in
-      rw (table-size, same .ready, timer-at, formed, same .entered, recorded slots (ledger.after (same .entries) (ledger.begin slots) .ledger .books) (ledger.after (same .entries) (ledger.begin slots) .stretch) books) refl
+  -- the largest multiple within the whole periods of the last reading
+  multiple-of : {announced count last seen : ℕ} → Tells period tick announced count last seen → LargestMultiple period tick announced last
+  multiple-of t =
+      let e = t .whole in
+      record { multiple = t .multiple; within = let h = t .within in omega arith; largest = let h = t .largest in omega arith; lag = t .lag }
 
-  never : (leafs : Refusal) → stepOf (w .machine) (D.Accepted K.Announce) .outcome ≡ Told.Refused (Why.NotAnnounced leafs) → ⊥
-  unfolding recordRows lastRows taskOf announceRows Others
-  never leafs e = by-row (every-refusal (w .machine) (D.Accepted K.Announce) .0 .refused (Why.NotAnnounced leafs) .0 e)
-    where
-      by-row : FirstIs ((malformed (coreOf (w .machine)) (length (w .machine .ledger .threads)), Why.Malformed) ∷ recordRows (w .machine) (D.Accepted K.Announce)) (Why.NotAnnounced leafs) → ⊥
-      by-row (inl here) = clash (let q = here .1 in cc)
-      by-row (inr later) =
-          let rest = none-before (Why.NotAnnounced leafs) (table (coreOf (w .machine)) (askedBy (w .machine .ledger .books) (length (w .machine .ledger .threads)) (taskOf K.Announce))) (announceRows (announceOf (w .machine .timer))) ((λ q. clash (cc)), ((λ q. clash (cc)), ((λ q. clash (cc)), ((λ q. clash (cc)), ((λ q. clash (cc)), ((λ q. clash (cc)), ((λ q. clash (cc)), tt))))))) (later .1) in
-          subst (λ a. FirstIs (announceRows a) (Why.NotAnnounced leafs)) (announces good w same .1) (rest .1)
+  announcement : (answered : Values) → stepOf (w .machine) (D.Accepted K.Announce) .outcome ≡ Told.Accepted answered → Announces stepOf period tick (w .machine) (stepOf (w .machine) (D.Accepted K.Announce) .machine) answered
+  unfolding answerTo leftBy
+  announcement answered e =
+      let law = every-answer (w .machine) K.Announce answered e in
+      let same-tick : timer .clock .tick ≡ tick = ap (λ (t : Timer). t .clock .tick) (same .timer) ∙ clock-runs.every-run period tick good (same .events) .always .same-tick in
+      rw (law .0, law .1)
+      (record {
+        largest-multiple = multiple-of told;
+        counts = told .whole;
+        ticks = ap (λ (n : ℕ). timer .clock .announced .0 + laws.announces (w .machine) .dticks .0 * n) (sym same-tick);
+        total = refl;
+      })
 
-  -- the onlooker after an accepted announcement
-  announced-time : (values : Values) → stepOf (w .machine) (D.Accepted K.Announce) .outcome ≡ Told.Accepted values → watch (D.Accepted K.Announce) w .time ≡ clock.step clock.announce at
-  unfolding watch touches clock.after
-  announced-time values e = rw e (ap (clock.step clock.announce) (same .run))
-
-  one-more : clock.after (same .events ++ clock.announce ∷ []) (clock.start period tick) ≡ clock.step clock.announce at
-  unfolding clock.after
-  one-more = on-and-on (same .events) (clock.announce ∷ []) (clock.start period tick)
-
-  tells : (values : Values) → stepOf (w .machine) (D.Accepted K.Announce) .outcome ≡ Told.Accepted values → let after = watch (D.Accepted K.Announce) w in Tells period tick (after .machine .timer .clock .announced .0) (after .machine .timer .clock .count .0) (after .machine .timer .clock .last .0) (after .time .seen)
-  tells values e =
-      let after = watch (D.Accepted K.Announce) w in
-      let time = announced-time values e in
-      let told = clock-runs.every-run period tick good (same .events) .announcements in
-      let last = clock-runs.every-run period tick good (same .events ++ clock.announce ∷ []) .always .last in
-      let timer = watch-same good (D.Accepted K.Announce) w same .timer ∙ ap (λ (x : clock.World). x .timer) time in
-      tells-as (clock.step clock.announce at) told (sym timer) (ap (λ (x : clock.World). x .timer .clock .last .0) (sym (one-more)) ∙ (last ∙ ap (λ (x : clock.World). x .read) one-more)) (ap (λ (x : clock.World). x .seen) (sym time))
-
-  always : Always period tick w
-  always = record { whole = whole; announces = never; tells = tells }
+  always : Always stepOf period tick w
+  always = record { announcement = announcement; rise = same .rise }
 
 -- and in a fair run
-fairly : {slots period tick : ℕ} → 0 < slots → GoodSetup period tick → (w : Watched) → True slots period tick w → Fairly w
-fairly {slots} {period} {tick} some good w held =
-    let same = held .same in
-    let run = clock-runs.every-run period tick good (same .events) in
-    let truly = run .faithful (held .fair) in
-    let near = ledger-runs.every-run slots some (same .entries) .1 in
-    record {
-      reads = ap (λ (t : Timer). t .clock .last .0) (timer-at some good w same) ∙ (run .always .last ∙ (truly .reads ∙ ap (λ (x : clock.World). x .cyclesC) (sym (same .run))));
-      sees = ap (λ (x : clock.World). x .seen) (same .run) ∙ (truly .sees ∙ ap (λ (x : clock.World). x .before) (sym (same .run)));
-      totals = λ i. rw (same .entered, held .threads) (near .threads i);
-      chain = rw (held .threads) (near .chain);
-    }
+module _ {slots period tick : ℕ} (some : 0 < slots) (good : GoodSetup period tick) (w : Watched) (held : True slots period tick w) where
+  shows : (g : Gaps) (answered : Values) → FairSample period (w .ran) (w .atC) g → stepOf (w .machine) (D.Accepted (K.Sample g)) .outcome ≡ Told.Accepted answered → w .machine .timer .clock .count .0 + answered .x ≡ timeC (w .ran) g
+  unfolding answerTo
+  shows g answered fair e =
+      let accepted = sample-accepted (w .machine) g (touches-accepted (w .machine) (K.Sample g) answered e) in
+      ap (λ (v : Values). w .machine .timer .clock .count .0 + v .x) (every-answer (w .machine) (K.Sample g) answered e .0) ∙ reads-true some good w held g fair accepted
 
-pub demand3 : Demand3
+  fairly : Fairly stepOf period tick w
+  fairly =
+      let same = held .same in
+      let run = clock-runs.every-run period tick good (same .events) in
+      let near = ledger-runs.every-run slots some (same .entries) .1 (w .ran) (held .timely) in
+      record {
+        reads = ap (λ (t : Timer). t .clock .last .0) (same .timer) ∙ (run .always .last ∙ (run .faithful (held .fair) .reads ∙ same .tracks .at-C));
+        shows = shows;
+        totals = λ i. rw (same .entered, held .threads) (near .threads i);
+        chain = rw (held .threads, held .printed) (near .chain);
+      }
+
+pub demand3 : Demand3 stepOf
 demand3 slots period tick some good ds =
     let begun = begin-true slots period tick good in
-    let w = watchAll ds (setUp slots period tick) in
-    (always some good w (all-same good ds (setUp slots period tick) (begun .same)), λ fair. fairly some good w (all-true good ds (setUp slots period tick) fair begun))
+    let w = watchAll stepOf ds (setUp stepOf slots period tick) in
+    (always some good w (all-same some good ds (setUp stepOf slots period tick) (begin-same slots period tick good)), λ fair. fairly some good w (all-true some good ds (setUp stepOf slots period tick) fair begun))

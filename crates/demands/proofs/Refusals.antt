@@ -1,4 +1,4 @@
--- Counter and clock refuse by their rows.
+-- Counter, clock and the ledger's report refuse by their rows.
 use mathlib.Core.Path.{_≡_, ap}
 use mathlib.Core.Bool.{cond, not}
 use mathlib.Core.List.{List, _∷_}
@@ -18,7 +18,9 @@ use Rattle.clock.specs.declared.Announced.the-variants as A
 use Rattle.clock.specs.Timer.{setUp, wellFormed}
 use Rattle.clock.specs.Sample.{sampleOf}
 use Rattle.clock.specs.Announce.{announceOf, announcedBy, announcementFrom}
-use Rattle.demands.specs.Refusals.{ByRows, TimerRefusals}
+use Rattle.ledger.specs.declared.Reported.the-variants as P
+use Rattle.ledger.specs.Operate.{reportOf}
+use Rattle.demands.specs.Refusals.{ByRows, EntryRefusals}
 
 module _ {Reason Answer : Type 0} (rows : List (Row Reason)) (refuse : Reason → Answer) (answer : Answer) where
   by-rows : ((why : Reason) → refuse why ≡ answer → ⊥) → ((r s : Reason) → refuse r ≡ refuse s → r ≡ s) → ByRows rows refuse answer (inOrder rows refuse answer)
@@ -35,13 +37,14 @@ announce-rows t =
     (carried (announcedBy t) D.Refused (D.Accepted (announceValue (t .clock .count) (t .clock .announced) (t .clock .overflow) (t .clock .tick)))
     (announceTests (t .clock .count) (t .clock .announced) (t .clock .overflow) (t .clock .tick)))
 
-pub timer-refusals : TimerRefusals
-unfolding startedOf ranOf valueOf setUp sampleOf
-timer-refusals = record {
+pub entry-refusals : EntryRefusals
+unfolding startedOf ranOf valueOf setUp sampleOf reportOf
+entry-refusals = record {
   started = λ period. by-rows _ R.Refused _ (λ why e. clash (cc)) (λ r s e. cc);
   run = λ c n. by-rows _ R.Refused _ (λ why e. clash (cc)) (λ r s e. cc);
   value = λ raw period. by-rows _ Read.Refused _ (λ why e. clash (cc)) (λ r s e. cc);
   set-up = λ period tick. by-rows _ U.Refused _ (λ why e. clash (cc)) (λ r s e. cc);
   sample = λ t g. by-rows _ S.Refused _ (λ why e. clash (cc)) (λ r s e. cc);
   announce = λ t. rw (announce-rows t) (by-rows _ A.Refused _ (λ why e. clash (cc)) (λ r s e. cc));
+  report = λ l i. by-rows _ P.Refused _ (λ why e. clash (cc)) (λ r s e. cc);
 }

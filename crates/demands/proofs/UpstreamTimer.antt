@@ -18,7 +18,7 @@ use Rattle.systick.specs.declared.MaxTicks.the-variants as M
 use Rattle.systick.proofs.Outcomes as timer
 use Rattle.systick.proofs.Bounds.{product-within, product-over}
 use Rattle.demands.specs.UpstreamTimer.{ElapsedCyclesEnsures, TicksToCyclesEnsures, ElapsedDecideEnsures, AnnounceDecideEnsures, TimerClauses, TimerLemmas}
-use Rattle.demands.proofs.Demand2 as demand2
+use Rattle.demands.proofs.Leaves as demand2
 
 -- a difference does not pass the load
 difference-within : (last current load : ℕ) → last ≤ load → current ≤ load → difference last current load ≤ load

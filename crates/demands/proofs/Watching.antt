@@ -1,32 +1,28 @@
--- The machine and its onlookers stay together, record by record.
-use Prim.Native.Nat.{ℕ}
+-- The machine and its onlooker stay together, record by record, with no premises.
+use Prim.Native.Nat.{ℕ, _+_, _<_}
 use mathlib.Core.Path.{_≡_, refl, sym, ap, _∙_, subst}
-use mathlib.Core.Bool.{Bool, true, false}
+use mathlib.Core.Bool.{Bool, true, false, cond}
 use mathlib.Core.List.{List, [], _∷_, _++_}
-use mathlib.Core.Logic.{_⊎_, inl, inr}
 use native.Mathlib.Omega.{arith}
+use native.Mathlib.Nat.{add-zero}
 use lib.ListN.{length, length-set, length-replicate}
 use lib.Dec.{eqb}
 use borrow.Author.Tests.{ne-eqb}
 use Rattle.error.proofs.Ordered.{by-outcome}
+use Rattle.units.specs.declared.Cycles.{Cycles}
 use Rattle.usage.specs.Record.{newIdle}
 use Rattle.counter.specs.Entries.{goodPeriod}
+use Rattle.counter.specs.Cycle.{runN, wraps}
 use Rattle.counter.proofs.Outcomes.{good-of-bounds}
-use Rattle.error.proofs.Tests.{clash}
-use Rattle.error.specs.declared.Refusal.{Refusal}
-use Rattle.units.specs.declared.Cycles.{Cycles}
-use Rattle.clock.specs.declared.Gaps.{Gaps}
-use Rattle.clock.specs.declared.Timer.{Timer}
 use Rattle.clock.specs.declared.Announcement.{Announcement}
 use Rattle.clock.specs.declared.Announced.the-variants as N
-use Rattle.clock.specs.Sample.{atC, sampleValue}
+use Rattle.clock.specs.Sample.{atC}
 use Rattle.clock.specs.Announce.{announceOf}
 use Rattle.clock.specs.Run as clock
 use Rattle.clock.specs.Holds.{GoodSetup}
 use Rattle.clock.proofs.Runs.{every-run}
 use Rattle.ledger.specs.declared.Ledger.{Ledger}
 use Rattle.ledger.specs.declared.Operation.{Operation}
-use Rattle.ledger.specs.declared.Operation.the-variants as O
 use Rattle.ledger.specs.declared.Answer.{Answer}
 use Rattle.ledger.specs.declared.Answer.the-variants as A
 use Rattle.ledger.specs.declared.Entered.{Entered}
@@ -35,242 +31,56 @@ use Rattle.ledger.specs.declared.Ledgered.{Ledgered}
 use Rattle.ledger.specs.Operate.{freshOf, concerned, refusedWith, storedIn, operateTests, operateOf}
 use Rattle.ledger.specs.Run as ledger
 use Rattle.trace.specs.declared.Record.{Record}
-use Rattle.trace.specs.declared.Record.the-variants as K
 use Rattle.trace.specs.declared.Decoded.{Decoded}
 use Rattle.trace.specs.declared.Decoded.the-variants as D
 use Rattle.machine.specs.declared.Machine.{Machine}
-use Rattle.machine.specs.declared.Reason.{Reason}
-use Rattle.machine.specs.declared.Reason.the-variants as Why
-use Rattle.machine.specs.declared.Outcome.{Outcome}
-use Rattle.machine.specs.declared.Outcome.the-variants as Told
-use Rattle.machine.specs.Task.{taskOf}
-use Rattle.machine.specs.Accepts.{Samples}
-use Rattle.machine.specs.Table.{malformed}
-use Rattle.machine.specs.Laws.{Operates, recordRows}
-use Rattle.machine.specs.Step.{coreOf, freshMachine, stepOf}
-use Rattle.machine.proofs.Keeping.{every-refusal, operated-timer}
+use Rattle.machine.specs.Step.{freshMachine, stepOf}
 use Rattle.machine.proofs.Stepping as stepping
 use Rattle.machine.proofs.Stepping.{Touches}
-use Rattle.demands.specs.Trace.{Watched, timeOf, at, threadsOf, afterTouch, touches, watch, watchAll, setUp, FairRecord, FairTrace}
+use Rattle.demands.specs.Trace.{Does, nothing, runs, samples, operates, doesOf, sampleOnly, afterTouch, happened, Watched, seen, watch, watchAll, setUp}
+use Rattle.demands.proofs.Counting.{Tracks}
+use Rattle.demands.proofs.Moving.{Ending, taken, summed, left, timeOf, on-and-on, entries-on, ending, Moved, operation, moved, Follows, follows, answeredOf, adds, sum-kept, refused-left}
 
--- events after events
-pub on-and-on : (es more : List clock.Event) (w : clock.World) → clock.after (es ++ more) w ≡ clock.after more (clock.after es w)
-unfolding clock.after
-on-and-on [] more w = refl
-on-and-on (e ∷ es) more w = on-and-on es more (clock.step e w)
+-- the onlooker's sum goes up by as much
+abbrev pub Rise : Watched → Type 0
+Rise w = w .machine .ledger .books .total .0 ≡ w .begun + w .printed
 
-pub fair-on : (es more : List clock.Event) (w : clock.World) → clock.Fair es w → clock.Fair more (clock.after es w) → clock.Fair (es ++ more) w
-unfolding clock.after
-fair-on [] more w f g = g
-fair-on (e ∷ es) more w f g = (f .0, fair-on es more (clock.step e w) (f .1) g)
-
-pub entries-on : (es more : List ledger.Event) (w : ledger.World) → ledger.after (es ++ more) w ≡ ledger.after more (ledger.after es w)
-unfolding ledger.after
-entries-on [] more w = refl
-entries-on (e ∷ es) more w = entries-on es more (ledger.step e w)
-
--- a record was touched, or left the machine as it was
-pub touched-or-not : (m : Machine) (r : Record) → ((touches (stepOf m (D.Accepted r) .outcome) ≡ true) × Touches m r) ⊎ ((touches (stepOf m (D.Accepted r) .outcome) ≡ false) × (stepOf m (D.Accepted r) .machine ≡ m))
-unfolding touches afterTouch
-touched-or-not m r = by-outcome (stepOf m (D.Accepted r) .outcome) refl
+pub rise-seen : (d : Does) (after : Machine) (w : Watched) → Rise w → after .ledger .books .total .0 ≡ w .machine .ledger .books .total .0 + answeredOf d → Rise (seen d after w)
+unfolding answeredOf seen
+rise-seen nothing after w rise e = omega arith
+rise-seen (runs n) after w rise e = omega arith
+rise-seen (samples g) after w rise e = omega arith
+rise-seen (operates op g x) after w rise e = by-test (ledger.begins (w .threads) op)
   where
-    left : (why : Reason) → stepOf m (D.Accepted r) .outcome ≡ Told.Refused why → (why ≡ Why.WontFit → ⊥) → stepOf m (D.Accepted r) .machine ≡ m
-    left why e n = every-refusal m (D.Accepted r) .1 .untouched why e n
+    by-test : (new : Bool) → after .ledger .books .total .0 ≡ cond new (after .ledger .books .total .0) (w .begun) + cond new 0 (w .printed + x)
+    by-test true = omega arith
+    by-test false = omega arith
 
-    by-reason : (why : Reason) → stepOf m (D.Accepted r) .outcome ≡ Told.Refused why → ((afterTouch why ≡ true) × Touches m r) ⊎ ((afterTouch why ≡ false) × (stepOf m (D.Accepted r) .machine ≡ m))
-    by-reason Why.Malformed e = inr (refl, left _ e (λ q. clash (cc)))
-    by-reason Why.BadRecord e = inr (refl, left _ e (λ q. clash (cc)))
-    by-reason Why.NotSetUp e = inr (refl, left _ e (λ q. clash (cc)))
-    by-reason Why.SecondSetup e = inr (refl, left _ e (λ q. clash (cc)))
-    by-reason Why.NoThread e = inr (refl, left _ e (λ q. clash (cc)))
-    by-reason Why.Running e = inr (refl, left _ e (λ q. clash (cc)))
-    by-reason Why.AnnounceFirst e = inr (refl, left _ e (λ q. clash (cc)))
-    by-reason Why.CyclesAbove e = inr (refl, left _ e (λ q. clash (cc)))
-    by-reason (Why.NotAnnounced leafs) e = inr (refl, left _ e (λ q. clash (cc)))
-    by-reason Why.WontFit e = inl (refl, stepping.touches-sum m r e)
+-- a refused operation leaves the times of its sample
+pub only-sample : (d : Does) (after : Machine) (w : Watched) → (seen (sampleOnly d) after w .ran ≡ seen d after w .ran) × (seen (sampleOnly d) after w .atC ≡ seen d after w .atC) × (answeredOf (sampleOnly d) ≡ 0)
+unfolding seen answeredOf
+only-sample nothing after w = (refl, refl, refl)
+only-sample (runs n) after w = (refl, refl, refl)
+only-sample (samples g) after w = (refl, refl, refl)
+only-sample (operates op g x) after w = (refl, refl, refl)
 
-    by-outcome : (o : Outcome) → stepOf m (D.Accepted r) .outcome ≡ o → ((touches o ≡ true) × Touches m r) ⊎ ((touches o ≡ false) × (stepOf m (D.Accepted r) .machine ≡ m))
-    by-outcome (Told.Accepted values) e = inl (refl, stepping.touches-accepted m r values e)
-    by-outcome (Told.Refused why) e = by-reason why e
+pub seen-machine : (d : Does) (after : Machine) (w : Watched) → seen d after w .machine ≡ after
+unfolding seen
+seen-machine nothing after w = refl
+seen-machine (runs n) after w = refl
+seen-machine (samples g) after w = refl
+seen-machine (operates op g x) after w = refl
 
--- what a touched record does: the counter and clock as the onlooker's, the ledger by so many entries
-record Moved (m : Machine) (time : clock.World) (r : Record) : Type 0 where
-  pub ready : stepOf m (D.Accepted r) .machine .ready ≡ m .ready
-  pub timer : stepOf m (D.Accepted r) .machine .timer ≡ clock.after (timeOf r) time .timer
-  pub entries : List ledger.Event
-  pub entered : (lw : ledger.World) → lw .ledger ≡ m .ledger → stepOf m (D.Accepted r) .machine .ledger ≡ ledger.after entries lw .ledger
-  -- where a sample reads the time of its C, they are the onlooker's
-  pub true-times : ((g : Gaps) → timeOf r ≡ clock.sample g ∷ [] → Samples (coreOf m) g → sampleValue (m .timer) g .reading .0 ≡ atC (m .timer .counter) g .cycles .0) → entries ≡ threadsOf m r
-
-module _ (m : Machine) (time : clock.World) (together : m .timer ≡ time .timer) where
-  -- nothing entered
-  idle : (r : Record) (timer : Timer) → stepOf m (D.Accepted r) .machine ≡ record { ready = m .ready; timer = timer; ledger = m .ledger } → timer ≡ clock.after (timeOf r) time .timer → threadsOf m r ≡ [] → Moved m time r
-  unfolding ledger.after
-  idle r timer e q none = record {
-    ready = ap (λ (x : Machine). x .ready) e;
-    timer = ap (λ (x : Machine). x .timer) e ∙ q;
-    entries = [];
-    entered = λ lw same. ap (λ (x : Machine). x .ledger) e ∙ sym same;
-    true-times = λ reads. sym none;
-  }
-
-  -- the onlooker's sample is the machine's
-  sample-time : (g : Gaps) → Samples (coreOf m) g → sampleValue (m .timer) g .timer ≡ clock.after (clock.sample g ∷ []) time .timer
-  unfolding clock.after clock.step
-  sample-time g accepted = sym (rw (sym together, accepted) refl)
-
-  operation : (r : Record) (g : Gaps) (o : Operates r g) → timeOf r ≡ clock.sample g ∷ [] → threadsOf m r ≡ at m g (o .0) → m .ready ≡ true → Touches m r → Moved m time r
-  unfolding ledger.after ledger.step
-  operation r g o et en ready t = record {
-    ready = stepping.stays-ready m r g o t;
-    timer = operated-timer m r (o .0) g (o .1) (t .whole) (t .none) ∙ (sample-time g (stepping.operation-accepted m r g o t) ∙ ap (λ (es : List clock.Event). clock.after es time .timer) (sym et));
-    entries = record { operation = o .0; time = sampleValue (m .timer) g .reading .0 } ∷ [];
-    true-times = λ reads. ap (λ (n : ℕ). record { operation = o .0; time = n } ∷ []) (reads g et (stepping.operation-accepted m r g o t)) ∙ sym en;
-    entered = λ lw same. stepping.operated m r g o ready t ∙ sym (entry-ledger lw same (sampleValue (m .timer) g .reading) (o .0));
-  }
-    where
-      answered : (lw : ledger.World) (e : ledger.Event) (l : Ledger) (a : Answer) → ledger.afterAnswer lw e l a .ledger ≡ l
-      answered lw e l (A.Accepted cycles) = refl
-      answered lw e l (A.Refused why) = refl
-
-      entry-ledger : (lw : ledger.World) → lw .ledger ≡ m .ledger → (reading : Cycles) (op : Operation) → ledger.step (record { operation = op; time = reading .0 }) lw .ledger ≡ operateOf (m .ledger) reading op .ledger
-      entry-ledger lw same reading op = answered lw (record { operation = op; time = reading .0 }) (operateOf (lw .ledger) reading op .ledger) (operateOf (lw .ledger) reading op .answer) ∙ ap (λ (l : Ledger). operateOf l reading op .ledger) same
-
-  moved : (r : Record) → m .ready ≡ true → ((a : Announcement) × (announceOf (m .timer) ≡ N.Accepted a)) → Touches m r → Moved m time r
-  unfolding taskOf clock.after clock.step
-  moved (K.Run p) ready a t = idle (K.Run p) _ (stepping.ran m p t) (sym (rw (sym together, stepping.runs-accepted m p t) refl)) refl
-  moved (K.Sample g) ready a t = idle (K.Sample g) _ (stepping.sampled m g t) (sample-time g (stepping.sample-accepted m g t)) refl
-  moved K.Announce ready a t = idle K.Announce _ (stepping.announced m (a .0) (a .1) t) (sym (rw (sym together, a .1) refl)) refl
-  moved (K.Start i g) ready a t = operation (K.Start i g) g (O.Start i, refl) refl refl ready t
-  moved (K.Switch i g) ready a t = operation (K.Switch i g) g (O.Switch i, refl) refl refl ready t
-  moved (K.Stop g) ready a t = operation (K.Stop g) g (O.Stop, refl) refl refl ready t
-  moved (K.Enable i g) ready a t = operation (K.Enable i g) g (O.Enable i, refl) refl refl ready t
-  moved (K.Disable i g) ready a t = operation (K.Disable i g) g (O.Disable i, refl) refl refl ready t
-  moved (K.Report i) ready a t = idle (K.Report i) (m .timer) (stepping.reported m i t) together refl
-  moved (K.Setup s) ready a t = absurd (stepping.no-setup m s ready t)
-
--- bytes that are no record leave the machine as it was
-refused-left : (m : Machine) (why : Refusal) → stepOf m (D.Refused why) .machine ≡ m
-unfolding recordRows
-refused-left m why = by-whole (malformed (coreOf m) (length (m .ledger .threads))) refl
-  where
-    by-whole : (t : Bool) → malformed (coreOf m) (length (m .ledger .threads)) ≡ t → stepOf m (D.Refused why) .machine ≡ m
-    by-whole true e = every-refusal m (D.Refused why) .1 .untouched Why.Malformed (every-refusal m (D.Refused why) .0 .refused Why.Malformed .1 (inl (e, refl))) (λ q. clash (cc))
-    by-whole false e = every-refusal m (D.Refused why) .1 .untouched Why.BadRecord (every-refusal m (D.Refused why) .0 .refused Why.BadRecord .1 (inr (e, inl (refl, refl)))) (λ q. clash (cc))
-
--- what stays true of a run from setup, with no premises: the machine is set up, its counter and clock are the onlooker's,
--- and its ledger is what some entries come to
+-- what stays true of a run from setup, with no premises: the machine is set up, its counter and clock are those of the
+-- clock's onlooker, who counts as ours does, and its ledger is what some entries come to
 pub record Same (slots period tick : ℕ) (w : Watched) : Type 0 where
   pub ready : w .machine .ready ≡ true
-  pub timer : w .machine .timer ≡ w .time .timer
   pub events : List clock.Event
-  pub run : w .time ≡ clock.after events (clock.start period tick)
+  pub timer : w .machine .timer ≡ clock.after events (clock.start period tick) .timer
+  pub tracks : Tracks period (w .ran) (w .atC) (clock.after events (clock.start period tick))
   pub entries : List ledger.Event
   pub entered : w .machine .ledger ≡ ledger.after entries (ledger.begin slots) .ledger
-
-module _ {slots period tick : ℕ} (good : GoodSetup period tick) where
-  pub announces : (w : Watched) → Same slots period tick w → (a : Announcement) × (announceOf (w .machine .timer) ≡ N.Accepted a)
-  announces w same =
-      let a = every-run period tick good (same .events) .always .announce-accepted in
-      (a .0, ap announceOf (same .timer ∙ ap (λ (t : clock.World). t .timer) (same .run)) ∙ a .1)
-
-  -- a touched record
-  touched-same : (w : Watched) (r : Record) → Same slots period tick w → (t : Touches (w .machine) r) → (threads : ledger.World) → Same slots period tick (record { machine = stepOf (w .machine) (D.Accepted r) .machine; time = clock.after (timeOf r) (w .time); threads = threads })
-  touched-same w r same t threads =
-      let m = moved (w .machine) (w .time) (same .timer) r (same .ready) (announces w same) t in
-      record {
-        ready = m .ready ∙ same .ready;
-        timer = m .timer;
-        events = same .events ++ timeOf r;
-        run = ap (clock.after (timeOf r)) (same .run) ∙ sym (on-and-on (same .events) (timeOf r) (clock.start period tick));
-        entries = same .entries ++ m .entries;
-        entered = m .entered (ledger.after (same .entries) (ledger.begin slots)) (sym (same .entered)) ∙ sym (ap (λ (l : ledger.World). l .ledger) (entries-on (same .entries) (m .entries) (ledger.begin slots)));
-      }
-
-  -- one that left the machine as it was
-  left-same : (w : Watched) (machine : Machine) → machine ≡ w .machine → Same slots period tick w → Same slots period tick (record { machine = machine; time = w .time; threads = w .threads })
-  left-same w machine e same = record { ready = rw e (same .ready); timer = rw e (same .timer); events = same .events; run = same .run; entries = same .entries; entered = rw e (same .entered) }
-
-  pub watch-same : (d : Decoded) (w : Watched) → Same slots period tick w → Same slots period tick (watch d w)
-  unfolding watch
-  watch-same (D.Accepted r) w same = by-touch (touched-or-not (w .machine) r)
-    where
-      by-touch : ((touches (stepOf (w .machine) (D.Accepted r) .outcome) ≡ true) × Touches (w .machine) r) ⊎ ((touches (stepOf (w .machine) (D.Accepted r) .outcome) ≡ false) × (stepOf (w .machine) (D.Accepted r) .machine ≡ w .machine)) → Same slots period tick (watch (D.Accepted r) w)
-      by-touch (inl t) = rw (t .0) (touched-same w r same (t .1) _)
-      by-touch (inr n) = rw (n .0) (left-same w _ (n .1) same)
-  watch-same (D.Refused why) w same = left-same w _ (refused-left (w .machine) why) same
-
-  pub all-same : (ds : List Decoded) (w : Watched) → Same slots period tick w → Same slots period tick (watchAll ds w)
-  unfolding watchAll
-  all-same [] w same = same
-  all-same (d ∷ ds) w same = all-same ds (watch d w) (watch-same d w same)
-
--- in a fair run, besides: the onlooker of the threads sees just the entries that the machine makes
-pub record True (slots period tick : ℕ) (w : Watched) : Type 0 where
-  pub same : Same slots period tick w
-  pub fair : clock.Fair (same .events) (clock.start period tick)
-  pub threads : w .threads ≡ ledger.after (same .entries) (ledger.begin slots)
-
-module _ {slots period tick : ℕ} (good : GoodSetup period tick) where
-  -- a fair sample reads the time of its C
-  reads-true : (w : Watched) → True slots period tick w → (g : Gaps) → clock.Fair (clock.sample g ∷ []) (w .time) → Samples (coreOf (w .machine)) g → sampleValue (w .machine .timer) g .reading .0 ≡ atC (w .machine .timer .counter) g .cycles .0
-  unfolding clock.after clock.step
-  reads-true w true-so-far g fair accepted =
-      let same = true-so-far .same in
-      let here = fair-on (same .events) (clock.sample g ∷ []) (clock.start period tick) (true-so-far .fair) (subst (clock.Fair (clock.sample g ∷ [])) (same .run) fair) in
-      let reads = every-run period tick good (same .events ++ clock.sample g ∷ []) .faithful here .reads in
-      let at-w = rw (on-and-on (same .events) (clock.sample g ∷ []) (clock.start period tick), sym (same .run), sym (same .timer), accepted) at reads in
-      at-w
-
-  touched-true : (w : Watched) (r : Record) → True slots period tick w → (t : Touches (w .machine) r) → clock.Fair (timeOf r) (w .time) → True slots period tick (record { machine = stepOf (w .machine) (D.Accepted r) .machine; time = clock.after (timeOf r) (w .time); threads = ledger.after (threadsOf (w .machine) r) (w .threads) })
-  unfolding touched-same
-  touched-true w r before t fair =
-      let same = before .same in
-      let m = moved (w .machine) (w .time) (same .timer) r (same .ready) (announces good w same) t in
-      let times = m .true-times (λ g e accepted. reads-true w before g (subst (λ (es : List clock.Event). clock.Fair es (w .time)) e fair) accepted) in
-      record {
-        same = touched-same good w r same t (ledger.after (threadsOf (w .machine) r) (w .threads));
-        fair = fair-on (same .events) (timeOf r) (clock.start period tick) (before .fair) (subst (clock.Fair (timeOf r)) (same .run) fair);
-        threads = ap (ledger.after (threadsOf (w .machine) r)) (before .threads) ∙ (ap (λ (es : List ledger.Event). ledger.after es (ledger.after (same .entries) (ledger.begin slots))) (sym times) ∙ sym (entries-on (same .entries) (m .entries) (ledger.begin slots)));
-      }
-
-  left-true : (w : Watched) (machine : Machine) → machine ≡ w .machine → True slots period tick w → True slots period tick (record { machine = machine; time = w .time; threads = w .threads })
-  unfolding left-same
-  left-true w machine e before = record { same = left-same good w machine e (before .same); fair = before .fair; threads = before .threads }
-
-  pub watch-true : (d : Decoded) (w : Watched) → FairRecord d w → True slots period tick w → True slots period tick (watch d w)
-  unfolding watch
-  watch-true (D.Accepted r) w fair before = by-touch (touched-or-not (w .machine) r)
-    where
-      by-touch : ((touches (stepOf (w .machine) (D.Accepted r) .outcome) ≡ true) × Touches (w .machine) r) ⊎ ((touches (stepOf (w .machine) (D.Accepted r) .outcome) ≡ false) × (stepOf (w .machine) (D.Accepted r) .machine ≡ w .machine)) → True slots period tick (watch (D.Accepted r) w)
-      by-touch (inl t) = rw (t .0) (touched-true w r before (t .1) (fair (t .0)))
-      by-touch (inr n) = rw (n .0) (left-true w _ (n .1) before)
-  watch-true (D.Refused why) w fair before = left-true w _ (refused-left (w .machine) why) before
-
-  pub all-true : (ds : List Decoded) (w : Watched) → FairTrace ds w → True slots period tick w → True slots period tick (watchAll ds w)
-  unfolding watchAll FairTrace
-  all-true [] w fair before = before
-  all-true (d ∷ ds) w fair before = all-true ds (watch d w) (fair .1) (watch-true d w (fair .0) before)
-
--- a setup as 01 has it
-good-setup : (period tick : ℕ) → GoodSetup period tick → (goodPeriod period ≡ true) × (eqb tick 0 ≡ false)
-good-setup period tick good = (good-of-bounds period (good .least) (good .most), ne-eqb tick 0 (λ z. let h = good .ticks in omega arith))
-
-setup-machine : (slots period tick : ℕ) → GoodSetup period tick → setUp slots period tick .machine ≡ record { ready = true; timer = clock.start period tick .timer; ledger = ledger.begin slots .ledger }
-setup-machine slots period tick good =
-    let ok = good-setup period tick good in
-    stepping.set-up (freshMachine slots) (record { period = period; tick = tick }) (stepping.setup-touches (freshMachine slots) (record { period = period; tick = tick }) refl (ok .0) (ok .1) refl) ∙
-    ap (λ (n : ℕ). record { ready = true; timer = clock.start period tick .timer; ledger = freshOf n }) (length-replicate slots newIdle)
-
-pub begin-true : (slots period tick : ℕ) → GoodSetup period tick → True slots period tick (setUp slots period tick)
-unfolding clock.after ledger.after
-begin-true slots period tick good =
-    let e = setup-machine slots period tick good in
-    record {
-      same = record { ready = ap (λ (m : Machine). m .ready) e; timer = ap (λ (m : Machine). m .timer) e; events = []; run = refl; entries = []; entered = ap (λ (m : Machine). m .ledger) e };
-      fair = tt;
-      threads = refl;
-    }
+  pub rise : Rise w
 
 -- the table keeps its size
 stored-slots : (l : Ledger) (k : ℕ) (x : Entered) → length (storedIn l k x .ledger .threads) ≡ length (l .threads)
@@ -293,7 +103,90 @@ step-slots e w = by-answer (operateOf (w .ledger) (record { 0 = e .time }) (e .o
     by-answer (A.Accepted cycles) = refl
     by-answer (A.Refused why) = refl
 
-pub after-slots : (es : List ledger.Event) (w : ledger.World) → length (ledger.after es w .ledger .threads) ≡ length (w .ledger .threads)
+after-slots : (es : List ledger.Event) (w : ledger.World) → length (ledger.after es w .ledger .threads) ≡ length (w .ledger .threads)
 unfolding ledger.after
 after-slots [] w = refl
 after-slots (e ∷ es) w = after-slots es (ledger.step e w) ∙ step-slots e w
+
+pub table-size : {slots period tick : ℕ} (w : Watched) → Same slots period tick w → length (w .machine .ledger .threads) ≡ slots
+table-size {slots} w same = ap (λ (l : Ledger). length (l .threads)) (same .entered) ∙ (after-slots (same .entries) (ledger.begin slots) ∙ length-replicate slots newIdle)
+
+module _ {slots period tick : ℕ} (some : 0 < slots) (good : GoodSetup period tick) where
+  pub announces : (w : Watched) → Same slots period tick w → (a : Announcement) × (announceOf (w .machine .timer) ≡ N.Accepted a)
+  announces w same =
+      let a = every-run period tick good (same .events) .always .announce-accepted in
+      (a .0, ap announceOf (same .timer) ∙ a .1)
+
+  pub has-slots : (w : Watched) → Same slots period tick w → 0 < length (w .machine .ledger .threads)
+  has-slots w same = subst (λ (n : ℕ). 0 < n) (sym (table-size w same)) some
+
+  -- a touched record, told as what it did or, where a sum was refused, as its sample
+  module _ (w : Watched) (r : Record) (same : Same slots period tick w) (t : Touches (w .machine) r) where
+    abbrev pub next : Machine
+    next = stepOf (w .machine) (D.Accepted r) .machine
+
+    unfoldable pub at : Moved (w .machine) (clock.after (same .events) (clock.start period tick)) r
+    at = moved (w .machine) (clock.after (same .events) (clock.start period tick)) (same .timer) r (same .ready) (announces w same) t
+
+    unfoldable pub touched-same : (d : Does) (n : ℕ) → seen d next w .ran ≡ seen (doesOf r n) next w .ran → seen d next w .atC ≡ seen (doesOf r n) next w .atC → next .ledger .books .total .0 ≡ w .machine .ledger .books .total .0 + answeredOf d → Same slots period tick (seen d next w)
+    unfolding Follows
+    touched-same d n er ec total =
+        let x = clock.after (same .events) (clock.start period tick) in
+        let step = follows (w .machine) x (same .timer) period w (same .tracks) next n r (same .ready) t in
+        let world = on-and-on (same .events) (timeOf r) (clock.start period tick) in
+        let is = seen-machine d next w in
+        record {
+          ready = ap (λ (m : Machine). m .ready) is ∙ (at .ready ∙ same .ready);
+          events = same .events ++ timeOf r;
+          timer = ap (λ (m : Machine). m .timer) is ∙ (at .timer ∙ ap (λ (y : clock.World). y .timer) (sym world));
+          tracks = rw (er, ec, world) step;
+          entries = same .entries ++ at .entries;
+          entered = ap (λ (m : Machine). m .ledger) is ∙ (at .entered (ledger.after (same .entries) (ledger.begin slots)) (sym (same .entered)) ∙ sym (ap (λ (y : ledger.World). y .ledger) (entries-on (same .entries) (at .entries) (ledger.begin slots))));
+          rise = rise-seen d next w (same .rise) total;
+        }
+
+  -- one that left the machine as it was
+  unfoldable pub left-same : (w : Watched) (machine : Machine) → machine ≡ w .machine → Same slots period tick w → Same slots period tick (seen nothing machine w)
+  unfolding seen
+  left-same w machine e same = record { ready = rw e (same .ready); events = same .events; timer = rw e (same .timer); tracks = same .tracks; entries = same .entries; entered = rw e (same .entered); rise = rw e (same .rise) }
+
+  pub watch-same : (d : Decoded) (w : Watched) → Same slots period tick w → Same slots period tick (watch stepOf d w)
+  unfolding happened afterTouch
+  watch-same (D.Accepted r) w same = by-ending (ending (w .machine) r)
+    where
+      by-ending : Ending (w .machine) r → Same slots period tick (watch stepOf (D.Accepted r) w)
+      by-ending (taken values e t) = rw e (touched-same w r same t (doesOf r (values .x)) (values .x) refl refl (adds (w .machine) (same .ready) (has-slots w same) values r t e))
+      by-ending (summed e t) =
+          let times = only-sample (doesOf r 0) (stepOf (w .machine) (D.Accepted r) .machine) w in
+          rw e (touched-same w r same t (sampleOnly (doesOf r 0)) 0 (times .0) (times .1) (ap (λ (l : Ledger). l .books .total .0) (sum-kept (w .machine) r e) ∙ (sym (add-zero _) ∙ ap (λ (n : ℕ). w .machine .ledger .books .total .0 + n) (sym (times .2)))))
+      by-ending (left why e before stays) = rw (e, before) (left-same w _ stays same)
+  watch-same (D.Refused why) w same = left-same w _ (refused-left (w .machine) why) same
+
+  pub all-same : (ds : List Decoded) (w : Watched) → Same slots period tick w → Same slots period tick (watchAll stepOf ds w)
+  unfolding watchAll
+  all-same [] w same = same
+  all-same (d ∷ ds) w same = all-same ds (watch stepOf d w) (watch-same d w same)
+
+-- a setup as 01 has it
+good-setup : (period tick : ℕ) → GoodSetup period tick → (goodPeriod period ≡ true) × (eqb tick 0 ≡ false)
+good-setup period tick good = (good-of-bounds period (good .least) (good .most), ne-eqb tick 0 (λ z. let h = good .ticks in omega arith))
+
+pub setup-machine : (slots period tick : ℕ) → GoodSetup period tick → setUp stepOf slots period tick .machine ≡ record { ready = true; timer = clock.start period tick .timer; ledger = ledger.begin slots .ledger }
+setup-machine slots period tick good =
+    let ok = good-setup period tick good in
+    stepping.set-up (freshMachine slots) (record { period = period; tick = tick }) (stepping.setup-touches (freshMachine slots) (record { period = period; tick = tick }) refl (ok .0) (ok .1) refl) ∙
+    ap (λ (n : ℕ). record { ready = true; timer = clock.start period tick .timer; ledger = freshOf n }) (length-replicate slots newIdle)
+
+unfoldable pub begin-same : (slots period tick : ℕ) → GoodSetup period tick → Same slots period tick (setUp stepOf slots period tick)
+unfolding clock.after ledger.after runN wraps
+begin-same slots period tick good =
+    let e = setup-machine slots period tick good in
+    record {
+      ready = ap (λ (m : Machine). m .ready) e;
+      events = [];
+      timer = ap (λ (m : Machine). m .timer) e;
+      tracks = record { alike = record { period = refl; value = refl; cycles = refl }; at-C = refl; before = refl; wraps-all = refl };
+      entries = [];
+      entered = ap (λ (m : Machine). m .ledger) e;
+      rise = ap (λ (m : Machine). m .ledger .books .total .0) e;
+    }

@@ -1,98 +1,38 @@
--- Demand 2 of the leaves: those that can refuse do so exactly when 01 says and else give 01's formula; ticks made into cycles come back.
-use Prim.Native.Nat.{ℕ, _+_, _-_, _*_, _/_, _≤_, _<_}
-use mathlib.Core.Path.{_≡_}
-use mathlib.Core.Bool.{Bool, true, false}
-use mathlib.Core.Logic.{_⊎_}
-use Rattle.error.specs.Numbers.{max32, max64}
-use Rattle.error.specs.Said.{accepted}
-use Rattle.units.specs.declared.Cycles.{Cycles}
-use Rattle.units.specs.declared.Ticks.{Ticks}
-use Rattle.systick.specs.Leaves.{elapsedCycles, difference, cyclesToTicks, ticksToCycles, maxTicks, mostTicks, elapsedDecide, elapsedValue, announceDecide, announceValue, dticksOf}
-use Rattle.systick.specs.Says.{elapsedCyclesSays, cyclesToTicksSays, ticksToCyclesSays, maxTicksSays, elapsedDecideSays, announceDecideSays}
-use Rattle.systick.specs.declared.CyclesToTicks.the-variants as T
-use Rattle.systick.specs.declared.TicksToCycles.the-variants as C
-use Rattle.usage.specs.Record.{newIdle, withFlag, withTotal}
-use Rattle.usage.specs.Leaves.{enabled, enabledRecord, disabled, accumulated}
-use Rattle.usage.specs.Says.{changedSays}
-use Rattle.usage.specs.declared.ThreadUsage.{ThreadUsage}
-use Rattle.demands.specs.Exact.{Exact}
+-- Demand 2, gathered: upstream's clauses, 01's formulas and exact refusals, and the round trip.
+use Rattle.ledger.specs.Laws as ledger
+use Rattle.machine.specs.Step.{stepOf}
+use Rattle.machine.specs.Laws.{EveryRefusal, EveryAnswer}
+use Rattle.demands.specs.Leaves.{ElapsedCyclesExact, CyclesToTicksExact, TicksToCyclesExact, MaxTicksExact, ElapsedDecideExact, AnnounceDecideExact, EnableExact, DisableExact, AccumulateExact, AverageIs, StampsApart, RoundTrip}
+use Rattle.demands.specs.Refusals.{EntryRefusals}
+use Rattle.demands.specs.UpstreamTimer.{TimerClauses, TimerLemmas}
+use Rattle.demands.specs.UpstreamThread.{ThreadClauses, ThreadLemmas}
+use Rattle.demands.specs.Numbers.{Numbers}
 
-abbrev pub ElapsedCyclesExact : Type 0
-ElapsedCyclesExact =
-    (last current load : ℕ) →
-    Exact (elapsedCyclesSays (elapsedCycles last current load))
-    ((last ≤ load) × (current ≤ load)) (difference last current load) 0
-    ((load < last) ⊎ (load < current))
-    ⊥
-
-abbrev pub CyclesToTicksExact : Type 0
-CyclesToTicksExact =
-    (cycles : Cycles) (tick : ℕ) →
-    Exact (cyclesToTicksSays (cyclesToTicks cycles tick))
-    (0 < tick) (record { 0 = cycles .0 / tick }) (record { 0 = 0 })
-    (tick ≡ 0)
-    ⊥
-
-abbrev pub TicksToCyclesExact : Type 0
-TicksToCyclesExact =
-    (ticks : Ticks) (tick : ℕ) →
-    Exact (ticksToCyclesSays (ticksToCycles ticks tick))
-    (ticks .0 * tick ≤ max64) (record { 0 = ticks .0 * tick }) (record { 0 = 0 })
-    ⊥
-    (max64 < ticks .0 * tick)
-
-abbrev pub MaxTicksExact : Type 0
-MaxTicksExact =
-    (tick : ℕ) →
-    Exact (maxTicksSays (maxTicks tick))
-    (0 < tick) (record { 0 = mostTicks tick }) (record { 0 = 0 })
-    (tick ≡ 0)
-    ⊥
-
-abbrev pub ElapsedDecideExact : Type 0
-ElapsedDecideExact =
-    (val1 val2 : ℕ) (flag : Bool) (load overflow : ℕ) →
-    Exact (elapsedDecideSays (elapsedDecide val1 val2 flag load overflow))
-    ((val2 ≤ load) × (load - val2 + overflow + load ≤ max32)) (elapsedValue val1 val2 flag load overflow)
-    (record { «wrap_detected» = false; «new_overflow_cyc» = 0; elapsed = 0 })
-    (load < val2)
-    ((val2 ≤ load) × (max32 < load - val2 + overflow + load))
-
-abbrev pub AnnounceDecideExact : Type 0
-AnnounceDecideExact =
-    (count announced : Cycles) (overflow tick : ℕ) →
-    Exact (announceDecideSays (announceDecide count announced overflow tick))
-    ((0 < tick) × (count .0 + overflow ≤ max64) × (announced .0 ≤ count .0 + overflow) × (dticksOf count announced overflow tick ≤ max32))
-    (announceValue count announced overflow tick)
-    (record { dticks = record { 0 = 0 }; «new_cycle_count» = record { 0 = 0 }; «new_announced_cycles» = record { 0 = 0 } })
-    ((tick ≡ 0) ⊎ ((0 < tick) × (count .0 + overflow ≤ max64) × (count .0 + overflow < announced .0)))
-    (((0 < tick) × (max64 < count .0 + overflow)) ⊎
-    ((0 < tick) × (count .0 + overflow ≤ max64) × (announced .0 ≤ count .0 + overflow) × (max32 < dticksOf count announced overflow tick)))
-
-abbrev pub EnableExact : Type 0
-EnableExact =
-    (u : ThreadUsage) →
-    Exact (changedSays (enabled u))
-    ((u .«track_usage» ≡ true) ⊎ ((u .«track_usage» ≡ false) × (u .«num_windows» ≡ max32 → ⊥))) (enabledRecord u) newIdle
-    ⊥
-    ((u .«track_usage» ≡ false) × (u .«num_windows» ≡ max32))
-
-abbrev pub AccumulateExact : Type 0
-AccumulateExact =
-    (u : ThreadUsage) (cycles : ℕ) →
-    Exact (changedSays (accumulated u cycles))
-    (u .«total_cycles» .0 + cycles ≤ max64) (withTotal (record { 0 = u .«total_cycles» .0 + cycles }) u) newIdle
-    ⊥
-    (max64 < u .«total_cycles» .0 + cycles)
-
--- disable is never refused
-abbrev pub DisableExact : Type 0
-DisableExact = (u : ThreadUsage) → changedSays (disabled u) ≡ accepted (withFlag false u)
-
--- for a tick above 0, wherever ticks_to_cycles accepts, cycles_to_ticks of its answer gives the same ticks
-abbrev pub RoundTrip : Type 0
-RoundTrip =
-    (ticks : Ticks) (tick : ℕ) (cycles : Cycles) →
-    0 < tick →
-    ticksToCycles ticks tick ≡ C.Accepted cycles →
-    cyclesToTicks cycles tick ≡ T.Accepted ticks
+pub record Demand2 : Type 0 where
+  -- Every upstream clause follows from ours, or 01 names what replaces it.
+  pub timer-clauses : TimerClauses
+  pub timer-lemmas : TimerLemmas
+  pub thread-clauses : ThreadClauses
+  pub thread-lemmas : ThreadLemmas
+  -- Every result field is 01's formula, and each refusal comes exactly when 01 says: of the leaves,
+  pub elapsed-cycles : ElapsedCyclesExact
+  pub cycles-to-ticks : CyclesToTicksExact
+  pub ticks-to-cycles : TicksToCyclesExact
+  pub max-ticks : MaxTicksExact
+  pub elapsed-decide : ElapsedDecideExact
+  pub announce-decide : AnnounceDecideExact
+  pub enable : EnableExact
+  pub disable : DisableExact
+  pub accumulate : AccumulateExact
+  pub average : AverageIs
+  pub stamps-apart : StampsApart
+  -- of counter, clock and ledger, and of a trace's records
+  pub entry-refusals : EntryRefusals
+  pub operations : ledger.EveryOperation
+  pub operation-refusals : ledger.EveryRefusal
+  pub records : EveryAnswer stepOf
+  pub record-refusals : EveryRefusal stepOf
+  -- For a tick above 0, ticks made into cycles come back as the same ticks, wherever they fit.
+  pub round-trip : RoundTrip
+  -- and 01's numbers to check
+  pub numbers : Numbers

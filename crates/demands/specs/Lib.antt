@@ -1,10 +1,14 @@
 pub mod Exact
-pub mod Demand2
+pub mod Leaves
 pub mod Refusals
 pub mod Numbers
 pub mod UpstreamTimer
 pub mod UpstreamThread
 pub mod Outcome
 pub mod Trace
+pub mod Demand1
+pub mod Demand2
 pub mod Demand3
-pub mod TraceShown
+pub mod Shown
+pub mod ShutOut
+pub mod Replayed

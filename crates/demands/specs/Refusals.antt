@@ -1,11 +1,12 @@
--- Which refusal: each entry of counter and clock refuses with the reason of the first of its tests that holds, and accepts where none does.
+-- Which refusal: each entry of counter and clock, and the ledger's report, refuses with the reason of the first of its tests that holds, and accepts where none does.
 use Prim.Native.Nat.{ℕ}
 use mathlib.Core.Path.{_≡_}
 use mathlib.Core.Bool.{cond, not}
 use mathlib.Core.List.{List, [], _∷_}
 use mathlib.Core.Logic.{_↔_}
-use lib.Dec.{eqb}
-use Rattle.error.specs.declared.Refusal.the-variants.{Invalid}
+use lib.ListN.{length}
+use lib.Dec.{leb, eqb}
+use Rattle.error.specs.declared.Refusal.the-variants.{Invalid, BadThread}
 use Rattle.error.specs.InOrder.{Row, NoneHolds, FirstIs}
 use Rattle.systick.specs.Leaves.{announceTests, announceValue}
 use Rattle.counter.specs.declared.Counter.{Counter}
@@ -21,12 +22,16 @@ use Rattle.clock.specs.declared.Announced.the-variants as A
 use Rattle.clock.specs.Timer.{setup, setupTests, setUp, wellFormed}
 use Rattle.clock.specs.Sample.{sampleTests, sampleValue, sampleOf}
 use Rattle.clock.specs.Announce.{announcementFrom, announceOf}
+use Rattle.usage.specs.Leaves.{averageCycles}
+use Rattle.ledger.specs.declared.Ledger.{Ledger}
+use Rattle.ledger.specs.declared.Reported.the-variants as P
+use Rattle.ledger.specs.Operate.{unrecorded, recordOf, reportOf}
 
 pub record ByRows {Reason Answer : Type 0} (rows : List (Row Reason)) (refuse : Reason → Answer) (answer outcome : Answer) : Type 0 where
   pub refused : (why : Reason) → (outcome ≡ refuse why) ↔ FirstIs rows why
   pub accepted : (outcome ≡ answer) ↔ NoneHolds rows
 
-pub record TimerRefusals : Type 0 where
+pub record EntryRefusals : Type 0 where
   pub started : (period : ℕ) → ByRows ((not (goodPeriod period), Invalid) ∷ []) R.Refused (R.Accepted (fresh period)) (startedOf period)
   pub run : (c : Counter) (n : ℕ) → ByRows (runTests c n) R.Refused (R.Accepted (runN n c)) (ranOf c n)
   pub value : (raw period : ℕ) → ByRows (valueTests raw period) Read.Refused (Read.Accepted (cond (eqb raw 0) period raw)) (valueOf raw period)
@@ -40,3 +45,11 @@ pub record TimerRefusals : Type 0 where
       A.Refused
       (A.Accepted (announcementFrom t (announceValue (t .clock .count) (t .clock .announced) (t .clock .overflow) (t .clock .tick))))
       (announceOf t)
+  -- a running thread without a record, then a thread past the table
+  pub report :
+      (l : Ledger) (i : ℕ) →
+      ByRows
+      ((unrecorded (l .books) (length (l .threads)), Invalid) ∷ (leb (length (l .threads)) i, BadThread) ∷ [])
+      P.Refused
+      (P.Accepted (record { total = recordOf l i .«total_cycles»; average = averageCycles (recordOf l i .«total_cycles») (recordOf l i .«num_windows») }))
+      (reportOf l i)

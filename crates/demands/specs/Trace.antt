@@ -1,63 +1,53 @@
--- A trace's run from setup: the machine by its own step, and beside it what an onlooker keeps.
-use Prim.Native.Nat.{ℕ}
+-- A trace's run from setup: a machine by its step, and beside it what an onlooker keeps, who has the records, which were
+-- accepted with what answer, and 01's counter. The onlooker never looks at what the machine keeps.
+use Prim.Native.Nat.{ℕ, _+_, _<_, _≤_}
 use mathlib.Core.Path.{_≡_}
 use mathlib.Core.Bool.{Bool, true, false, cond}
 use mathlib.Core.List.{List, [], _∷_}
+use Rattle.counter.specs.Cycle.{fresh, wraps}
 use Rattle.clock.specs.declared.Gaps.{Gaps}
-use Rattle.clock.specs.Sample.{atC}
-use Rattle.clock.specs.Run as clock
 use Rattle.ledger.specs.declared.Operation.{Operation}
 use Rattle.ledger.specs.declared.Operation.the-variants as O
-use Rattle.ledger.specs.Run as ledger
+use Rattle.ledger.specs.Run.{Threads, noneRan, begins, operated, answeredAfter}
 use Rattle.trace.specs.declared.Record.{Record}
 use Rattle.trace.specs.declared.Record.the-variants as K
 use Rattle.trace.specs.declared.Decoded.{Decoded}
 use Rattle.trace.specs.declared.Decoded.the-variants as D
 use Rattle.machine.specs.declared.Machine.{Machine}
+use Rattle.machine.specs.declared.Stepped.{Stepped}
 use Rattle.machine.specs.declared.Reason.{Reason}
 use Rattle.machine.specs.declared.Reason.the-variants as Why
 use Rattle.machine.specs.declared.Outcome.{Outcome}
 use Rattle.machine.specs.declared.Outcome.the-variants as Told
-use Rattle.machine.specs.Step.{freshMachine, stepOf}
+use Rattle.machine.specs.Step.{freshMachine}
 
--- The machine, and two onlookers. The first has the stepping counter: real wraps and T at each C. The second has who ran
--- between which true times. Neither looks at what the machine keeps.
-pub record Watched : Type 0 where
-  pub machine : Machine
-  pub time : clock.World
-  pub threads : ledger.World
+-- what a record lets happen: cycles run, a sample, or a sample with an operation that answered so many cycles
+pub data Does : Type 0 where
+  nothing : Does
+  runs : ℕ → Does
+  samples : Gaps → Does
+  operates : Operation → Gaps → ℕ → Does
 
--- what a record lets happen to the counter
-abbrev pub timeOf : Record → List clock.Event
-timeOf (K.Run p) = clock.run p ∷ []
-timeOf (K.Sample g) = clock.sample g ∷ []
-timeOf K.Announce = clock.announce ∷ []
-timeOf (K.Start i g) = clock.sample g ∷ []
-timeOf (K.Switch i g) = clock.sample g ∷ []
-timeOf (K.Stop g) = clock.sample g ∷ []
-timeOf (K.Enable i g) = clock.sample g ∷ []
-timeOf (K.Disable i g) = clock.sample g ∷ []
-timeOf (K.Report i) = []
-timeOf (K.Setup s) = []
+abbrev pub doesOf : Record → ℕ → Does
+doesOf (K.Run p) x = runs p
+doesOf (K.Sample g) x = samples g
+doesOf K.Announce x = nothing
+doesOf (K.Start i g) x = operates (O.Start i) g x
+doesOf (K.Switch i g) x = operates (O.Switch i) g x
+doesOf (K.Stop g) x = operates O.Stop g x
+doesOf (K.Enable i g) x = operates (O.Enable i) g x
+doesOf (K.Disable i g) x = operates (O.Disable i) g x
+doesOf (K.Report i) x = nothing
+doesOf (K.Setup s) x = nothing
 
--- an operation at the true time of its C
-abbrev pub at : Machine → Gaps → Operation → List ledger.Event
-at m g op = record { operation = op; time = atC (m .timer .counter) g .cycles .0 } ∷ []
+-- a sample whose operation was refused is still one
+abbrev pub sampleOnly : Does → Does
+sampleOnly nothing = nothing
+sampleOnly (runs n) = runs n
+sampleOnly (samples g) = samples g
+sampleOnly (operates op g x) = samples g
 
--- and to the threads
-abbrev pub threadsOf : Machine → Record → List ledger.Event
-threadsOf m (K.Run p) = []
-threadsOf m (K.Sample g) = []
-threadsOf m K.Announce = []
-threadsOf m (K.Start i g) = at m g (O.Start i)
-threadsOf m (K.Switch i g) = at m g (O.Switch i)
-threadsOf m (K.Stop g) = at m g O.Stop
-threadsOf m (K.Enable i g) = at m g (O.Enable i)
-threadsOf m (K.Disable i g) = at m g (O.Disable i)
-threadsOf m (K.Report i) = []
-threadsOf m (K.Setup s) = []
-
--- a sum or window that won't fit is refused after the touch, every other refusal before it
+-- a sum or window that won't fit is refused after the touch, every other refusal comes before it
 unfoldable pub afterTouch : Reason → Bool
 afterTouch Why.Malformed = false
 afterTouch Why.BadRecord = false
@@ -70,36 +60,78 @@ afterTouch Why.CyclesAbove = false
 afterTouch (Why.NotAnnounced leafs) = false
 afterTouch Why.WontFit = true
 
-unfoldable pub touches : Outcome → Bool
-touches (Told.Accepted values) = true
-touches (Told.Refused why) = afterTouch why
+unfoldable pub happened : Decoded → Outcome → Does
+happened (D.Accepted r) (Told.Accepted values) = doesOf r (values .x)
+happened (D.Accepted r) (Told.Refused why) = cond (afterTouch why) (sampleOnly (doesOf r 0)) nothing
+happened (D.Refused why) o = nothing
 
--- one record: the machine steps, and the onlookers see what happened
-unfoldable pub watch : Decoded → Watched → Watched
-watch (D.Accepted r) w = record {
-  machine = stepOf (w .machine) (D.Accepted r) .machine;
-  time = cond (touches (stepOf (w .machine) (D.Accepted r) .outcome)) (clock.after (timeOf r) (w .time)) (w .time);
-  threads = cond (touches (stepOf (w .machine) (D.Accepted r) .outcome)) (ledger.after (threadsOf (w .machine) r) (w .threads)) (w .threads);
+pub record Watched : Type 0 where
+  pub machine : Machine
+  -- the cycles run so far, and by the last C (setup counts as one)
+  pub ran : ℕ
+  pub atC : ℕ
+  -- who ran between which true times
+  pub threads : Threads
+  -- the machine total at the last start, and the cycles answered since, summed
+  pub begun : ℕ
+  pub printed : ℕ
+
+-- all that a sample runs, r too where no D follows, and the cycles run by its C
+abbrev pub wholeOf : Gaps → ℕ
+wholeOf g = g .p + g .q + g .r
+
+abbrev pub timeC : ℕ → Gaps → ℕ
+timeC ran g = ran + (g .p + g .q)
+
+unfoldable pub seen : Does → Machine → Watched → Watched
+seen nothing m w = record { machine = m; ran = w .ran; atC = w .atC; threads = w .threads; begun = w .begun; printed = w .printed }
+seen (runs n) m w = record { machine = m; ran = w .ran + n; atC = w .atC; threads = w .threads; begun = w .begun; printed = w .printed }
+seen (samples g) m w = record { machine = m; ran = w .ran + wholeOf g; atC = timeC (w .ran) g; threads = w .threads; begun = w .begun; printed = w .printed }
+seen (operates op g x) m w = record {
+  machine = m;
+  ran = w .ran + wholeOf g;
+  atC = timeC (w .ran) g;
+  threads = operated (w .threads) op (timeC (w .ran) g);
+  begun = cond (begins (w .threads) op) (m .ledger .books .total .0) (w .begun);
+  printed = answeredAfter (w .threads) op (w .printed) x;
 }
-watch (D.Refused why) w = record { machine = stepOf (w .machine) (D.Refused why) .machine; time = w .time; threads = w .threads }
 
-unfoldable pub watchAll : List Decoded → Watched → Watched
-watchAll [] w = w
-watchAll (d ∷ ds) w = watchAll ds (watch d w)
+-- demand 3's premises, of 01's counter from setup: its real wraps in so many cycles
+abbrev pub wrapsBy : ℕ → ℕ → ℕ
+wrapsBy period cycles = wraps cycles (fresh period)
 
--- a fresh machine, set up
-abbrev pub setUp : ℕ → ℕ → ℕ → Watched
-setUp slots period tick = record {
-  machine = stepOf (freshMachine slots) (D.Accepted (K.Setup (record { period = period; tick = tick }))) .machine;
-  time = clock.start period tick;
-  threads = ledger.begin slots;
-}
+-- A sample takes less than a period; at most one wrap since the last C; where there was one, none from C to D.
+pub record FairSample (period ran atC : ℕ) (g : Gaps) : Type 0 where
+  pub quick : g .p + g .q < period
+  pub one-wrap : wrapsBy period (timeC ran g) ≤ wrapsBy period atC + 1
+  pub none-to-D : wrapsBy period atC < wrapsBy period (timeC ran g) → wrapsBy period (ran + wholeOf g) ≡ wrapsBy period (timeC ran g)
 
--- demand 3's premises, of each record that samples and is not refused before the touch
-abbrev pub FairRecord : Decoded → Watched → Type 0
-FairRecord (D.Accepted r) w = touches (stepOf (w .machine) (D.Accepted r) .outcome) ≡ true → clock.Fair (timeOf r) (w .time)
-FairRecord (D.Refused why) w = Unit {0}
+abbrev pub Fair : ℕ → ℕ → ℕ → Does → Type 0
+Fair period ran atC nothing = Unit {0}
+Fair period ran atC (runs n) = Unit {0}
+Fair period ran atC (samples g) = FairSample period ran atC g
+Fair period ran atC (operates op g x) = FairSample period ran atC g
 
-unfoldable pub FairTrace : List Decoded → Watched → Type 0
-FairTrace [] w = Unit {0}
-FairTrace (d ∷ ds) w = FairRecord d w × FairTrace ds (watch d w)
+module _ (step : Machine → Decoded → Stepped) where
+  abbrev pub watch : Decoded → Watched → Watched
+  watch d w = seen (happened d (step (w .machine) d .outcome)) (step (w .machine) d .machine) w
+
+  unfoldable pub watchAll : List Decoded → Watched → Watched
+  watchAll [] w = w
+  watchAll (d ∷ ds) w = watchAll ds (watch d w)
+
+  -- a fresh machine, set up
+  abbrev pub setUp : ℕ → ℕ → ℕ → Watched
+  setUp slots period tick = record {
+    machine = step (freshMachine slots) (D.Accepted (K.Setup (record { period = period; tick = tick }))) .machine;
+    ran = 0;
+    atC = 0;
+    threads = noneRan;
+    begun = 0;
+    printed = 0;
+  }
+
+  -- each sample is fair that was not refused before the touch
+  unfoldable pub FairTrace : ℕ → List Decoded → Watched → Type 0
+  FairTrace period [] w = Unit {0}
+  FairTrace period (d ∷ ds) w = Fair period (w .ran) (w .atC) (happened d (step (w .machine) d .outcome)) × FairTrace period ds (watch d w)

@@ -30,6 +30,7 @@ use Rattle.ledger.specs.Run.{World, Event, Open, none, since, begin, isN
 use Rattle.ledger.specs.Holds.{Marked, EveryRun}
 use Rattle.ledger.proofs.Operating.{within}
 use Rattle.ledger.proofs.Adding.{stamp-sums, stamp-chain}
+use Rattle.ledger.proofs.Timing.{in-time}
 use Rattle.ledger.proofs.Entering.{entry-is}
 use Rattle.ledger.proofs.Operated.{stored-by}
 use Rattle.ledger.proofs.Refusing.{never-invalid, report-never-invalid}
@@ -73,12 +74,12 @@ Follows (since i from) last = from ≡ last
 
 record Kept (slots : ℕ) (w : World) : Type 0 where
   size : length (w .ledger .threads) ≡ slots
-  mark : Marked slots (w .ledger .books) (w .stretch)
-  flags : (i : ℕ) → recordOf (w .ledger) i .«track_usage» ≡ w .tracked i
-  totals : (i : ℕ) → recordOf (w .ledger) i .«total_cycles» .0 ≡ sumOf measured i (w .closed)
-  machine : w .ledger .books .total .0 ≡ allOf measured (w .closed)
-  chain : w .answered ≡ chainOf measured (w .last) (w .times)
-  follows : Follows (w .stretch) (w .last)
+  mark : Marked slots (w .ledger .books) (w .threads .stretch)
+  flags : (i : ℕ) → recordOf (w .ledger) i .«track_usage» ≡ w .threads .tracked i
+  totals : (i : ℕ) → recordOf (w .ledger) i .«total_cycles» .0 ≡ sumOf measured i (w .threads .closed)
+  machine : w .ledger .books .total .0 ≡ allOf measured (w .threads .closed)
+  chain : w .answered ≡ chainOf measured (w .threads .last) (w .threads .times)
+  follows : Follows (w .threads .stretch) (w .threads .last)
 
 -- what the open stretch measures when it is closed at a time, and to whom it is charged
 added : Open → ℕ → ℕ
@@ -90,13 +91,13 @@ owner none tracked j = false
 owner (since i from) tracked j = tracked i && eqb i j
 
 -- a closed stretch is in both sums
-all-after : (w : World) (time : ℕ) (o : Open) (c : Bool) → allOf measured (cond c (shut w time o) (w .closed)) ≡ allOf measured (w .closed) + cond c (added o time) 0
+all-after : (w : World) (time : ℕ) (o : Open) (c : Bool) → allOf measured (cond c (shut (w .threads) time o) (w .threads .closed)) ≡ allOf measured (w .threads .closed) + cond c (added o time) 0
 unfolding allOf added
 all-after w time none true = sym (add-zero _)
 all-after w time (since i from) true = refl
 all-after w time o false = sym (add-zero _)
 
-sum-after : (w : World) (time j : ℕ) (o : Open) (c : Bool) → sumOf measured j (cond c (shut w time o) (w .closed)) ≡ sumOf measured j (w .closed) + cond c (cond (owner o (w .tracked) j) (added o time) 0) 0
+sum-after : (w : World) (time j : ℕ) (o : Open) (c : Bool) → sumOf measured j (cond c (shut (w .threads) time o) (w .threads .closed)) ≡ sumOf measured j (w .threads .closed) + cond c (cond (owner o (w .threads .tracked) j) (added o time) 0) 0
 unfolding sumOf added owner
 sum-after w time j none true = sym (add-zero _)
 sum-after w time j (since i from) true = refl
@@ -113,13 +114,13 @@ module _ (slots : ℕ) (w : World) (k : Kept slots w) where
   b = w .ledger .books
 
   -- the ledger closes exactly where the onlooker says so
-  closing : (op : Operation) → closes b (recordOf (w .ledger) (concerned b op)) op ≡ closesNow w op
+  closing : (op : Operation) → closes b (recordOf (w .ledger) (concerned b op)) op ≡ closesNow (w .threads) op
   unfolding closes closesNow concerned
   closing (O.Start i) = refl
-  closing (O.Switch i) = ap not (marked-none slots b (w .stretch) (k .mark))
-  closing O.Stop = ap not (marked-none slots b (w .stretch) (k .mark))
-  closing (O.Enable i) = simp (k .flags i, marked-of slots b (w .stretch) (k .mark) i)
-  closing (O.Disable i) = simp (k .flags i, marked-of slots b (w .stretch) (k .mark) i)
+  closing (O.Switch i) = ap not (marked-none slots b (w .threads .stretch) (k .mark))
+  closing O.Stop = ap not (marked-none slots b (w .threads .stretch) (k .mark))
+  closing (O.Enable i) = simp (k .flags i, marked-of slots b (w .threads .stretch) (k .mark) i)
+  closing (O.Disable i) = simp (k .flags i, marked-of slots b (w .threads .stretch) (k .mark) i)
 
   -- and then the record concerned is that of the thread whose stretch is open
   and-true : (x y : Bool) → x && y ≡ true → y ≡ true
@@ -130,35 +131,35 @@ module _ (slots : ℕ) (w : World) (k : Kept slots w) where
   of-running none m e i = clash (cc)
   of-running (since j from) m e i = simp (ne-eqb (b .stamp) 0 (λ z. stamped from (sym (m .0) ∙ z)), m .1) (eq-eqb j j refl)
 
-  on-concerned : (op : Operation) → closesNow w op ≡ true → isOf (w .stretch) (concerned b op) ≡ true
+  on-concerned : (op : Operation) → closesNow (w .threads) op ≡ true → isOf (w .threads .stretch) (concerned b op) ≡ true
   unfolding closesNow concerned
   on-concerned (O.Start i) e = clash (cc)
-  on-concerned (O.Switch i) e = of-running (w .stretch) (k .mark) e i
-  on-concerned O.Stop e = of-running (w .stretch) (k .mark) e 0
-  on-concerned (O.Enable i) e = and-true (not (w .tracked i)) _ e
-  on-concerned (O.Disable i) e = and-true (w .tracked i) _ e
+  on-concerned (O.Switch i) e = of-running (w .threads .stretch) (k .mark) e i
+  on-concerned O.Stop e = of-running (w .threads .stretch) (k .mark) e 0
+  on-concerned (O.Enable i) e = and-true (not (w .threads .tracked i)) _ e
+  on-concerned (O.Disable i) e = and-true (w .threads .tracked i) _ e
 
   not-none : (o : Open) (i : ℕ) → isOf o i ≡ true → isNone o ≡ false
   not-none none i e = clash (cc)
   not-none (since j from) i e = refl
 
   -- the charge of a stretch is that of its own thread, and of no other
-  owned : (o : Open) (at j : ℕ) → isOf o at ≡ true → owner o (w .tracked) j ≡ w .tracked at && eqb at j
+  owned : (o : Open) (at j : ℕ) → isOf o at ≡ true → owner o (w .threads .tracked) j ≡ w .threads .tracked at && eqb at j
   unfolding owner
   owned none at j e = clash (cc)
   owned (since i from) at j e = rw (eqb-true i at e)
 
   -- the flag of the thread concerned, and of every other, as the onlooker keeps it
   module _ (j : ℕ) where
-    flag-of : (op : Operation) → eqb (concerned b op) j ≡ true → flagAfter op (w .tracked (concerned b op)) ≡ trackedAfter w op j
+    flag-of : (op : Operation) → eqb (concerned b op) j ≡ true → flagAfter op (w .threads .tracked (concerned b op)) ≡ trackedAfter (w .threads) op j
     unfolding flagAfter trackedAfter concerned
-    flag-of (O.Start i) m = ap (w .tracked) (eqb-true _ _ m)
-    flag-of (O.Switch i) m = ap (w .tracked) (eqb-true _ _ m)
-    flag-of O.Stop m = ap (w .tracked) (eqb-true _ _ m)
+    flag-of (O.Start i) m = ap (w .threads .tracked) (eqb-true _ _ m)
+    flag-of (O.Switch i) m = ap (w .threads .tracked) (eqb-true _ _ m)
+    flag-of O.Stop m = ap (w .threads .tracked) (eqb-true _ _ m)
     flag-of (O.Enable i) m = simp m
     flag-of (O.Disable i) m = simp m
 
-    other-flag : (op : Operation) → eqb (concerned b op) j ≡ false → w .tracked j ≡ trackedAfter w op j
+    other-flag : (op : Operation) → eqb (concerned b op) j ≡ false → w .threads .tracked j ≡ trackedAfter (w .threads) op j
     unfolding trackedAfter concerned
     other-flag (O.Start i) m = refl
     other-flag (O.Switch i) m = refl
@@ -172,23 +173,23 @@ module _ (slots : ℕ) (w : World) (k : Kept slots w) where
     at = concerned b op
 
     -- the cycles answered are those of the stretch that the onlooker closes
-    cycles-of : (c : Bool) → closesNow w op ≡ c → e .cycles ≡ cond c (added (w .stretch) time) 0
-    cycles-of true q = law .cycles ∙ simp (closing op ∙ q) (cycles-are slots b (w .stretch) time (k .mark) (not-none (w .stretch) at (on-concerned op q)))
+    cycles-of : (c : Bool) → closesNow (w .threads) op ≡ c → e .cycles ≡ cond c (added (w .threads .stretch) time) 0
+    cycles-of true q = law .cycles ∙ simp (closing op ∙ q) (cycles-are slots b (w .threads .stretch) time (k .mark) (not-none (w .threads .stretch) at (on-concerned op q)))
     cycles-of false q = law .cycles ∙ simp (closing op ∙ q)
 
-    machine-after : e .books .total .0 ≡ allOf measured (cond (closesNow w op) (shut w time (w .stretch)) (w .closed))
-    machine-after = law .machine ∙ (ap (λ (n : ℕ). n + e .cycles) (k .machine) ∙ (ap (λ (n : ℕ). allOf measured (w .closed) + n) (cycles-of (closesNow w op) refl) ∙ sym (all-after w time (w .stretch) (closesNow w op))))
+    machine-after : e .books .total .0 ≡ allOf measured (cond (closesNow (w .threads) op) (shut (w .threads) time (w .threads .stretch)) (w .threads .closed))
+    machine-after = law .machine ∙ (ap (λ (n : ℕ). n + e .cycles) (k .machine) ∙ (ap (λ (n : ℕ). allOf measured (w .threads .closed) + n) (cycles-of (closesNow (w .threads) op) refl) ∙ sym (all-after w time (w .threads .stretch) (closesNow (w .threads) op))))
 
     -- the total of the record concerned, and of every other
-    credit : (j : ℕ) (c : Bool) → closesNow w op ≡ c → (mine : Bool) → eqb at j ≡ mine → cond mine (cond (w .tracked at) (cond c (added (w .stretch) time) 0) 0) 0 ≡ cond c (cond (owner (w .stretch) (w .tracked) j) (added (w .stretch) time) 0) 0
-    credit j true q mine m = rw (owned (w .stretch) at j (on-concerned op q), m) (both-ways (w .tracked at) mine (added (w .stretch) time))
+    credit : (j : ℕ) (c : Bool) → closesNow (w .threads) op ≡ c → (mine : Bool) → eqb at j ≡ mine → cond mine (cond (w .threads .tracked at) (cond c (added (w .threads .stretch) time) 0) 0) 0 ≡ cond c (cond (owner (w .threads .stretch) (w .threads .tracked) j) (added (w .threads .stretch) time) 0) 0
+    credit j true q mine m = rw (owned (w .threads .stretch) at j (on-concerned op q), m) (both-ways (w .threads .tracked at) mine (added (w .threads .stretch) time))
       where
         both-ways : (tracked mine : Bool) (n : ℕ) → cond mine (cond tracked n 0) 0 ≡ cond (tracked && mine) n 0
         both-ways true true n = refl
         both-ways true false n = refl
         both-ways false true n = refl
         both-ways false false n = refl
-    credit j false q true m = by-flag (w .tracked at)
+    credit j false q true m = by-flag (w .threads .tracked at)
       where
         by-flag : (tracked : Bool) → _≡_ {A = ℕ} (cond tracked 0 0) 0
         by-flag true = refl
@@ -203,24 +204,24 @@ module _ (slots : ℕ) (w : World) (k : Kept slots w) where
       record-after : (j : ℕ) → getD (set (w .ledger .threads) at (e .usage)) j newIdle ≡ cond (eqb at j) (e .usage) (recordOf (w .ledger) j)
       record-after j = stored (w .ledger .threads) at j (e .usage) here
 
-      totals-after : (j : ℕ) → getD (set (w .ledger .threads) at (e .usage)) j newIdle .«total_cycles» .0 ≡ sumOf measured j (cond (closesNow w op) (shut w time (w .stretch)) (w .closed))
-      totals-after j = ap (λ (u : ThreadUsage). u .«total_cycles» .0) (record-after j) ∙ (by-record (eqb at j) refl ∙ sym (sum-after w time j (w .stretch) (closesNow w op)))
+      totals-after : (j : ℕ) → getD (set (w .ledger .threads) at (e .usage)) j newIdle .«total_cycles» .0 ≡ sumOf measured j (cond (closesNow (w .threads) op) (shut (w .threads) time (w .threads .stretch)) (w .threads .closed))
+      totals-after j = ap (λ (u : ThreadUsage). u .«total_cycles» .0) (record-after j) ∙ (by-record (eqb at j) refl ∙ sym (sum-after w time j (w .threads .stretch) (closesNow (w .threads) op)))
         where
-          by-record : (mine : Bool) → eqb at j ≡ mine → cond mine (e .usage) (recordOf (w .ledger) j) .«total_cycles» .0 ≡ sumOf measured j (w .closed) + cond (closesNow w op) (cond (owner (w .stretch) (w .tracked) j) (added (w .stretch) time) 0) 0
+          by-record : (mine : Bool) → eqb at j ≡ mine → cond mine (e .usage) (recordOf (w .ledger) j) .«total_cycles» .0 ≡ sumOf measured j (w .threads .closed) + cond (closesNow (w .threads) op) (cond (owner (w .threads .stretch) (w .threads .tracked) j) (added (w .threads .stretch) time) 0) 0
           by-record true m =
               law .total ∙
               (ap (λ (n : ℕ). n + cond (recordOf (w .ledger) at .«track_usage») (e .cycles) 0) (k .totals at) ∙
-              (rw (k .flags at, cycles-of (closesNow w op) refl, eqb-true at j m)
-              (ap (λ (n : ℕ). sumOf measured j (w .closed) + n) (rw (eqb-true at j m) at (credit j (closesNow w op) refl true m)))))
-          by-record false m = k .totals j ∙ (sym (add-zero _) ∙ ap (λ (n : ℕ). sumOf measured j (w .closed) + n) (credit j (closesNow w op) refl false m))
+              (rw (k .flags at, cycles-of (closesNow (w .threads) op) refl, eqb-true at j m)
+              (ap (λ (n : ℕ). sumOf measured j (w .threads .closed) + n) (rw (eqb-true at j m) at (credit j (closesNow (w .threads) op) refl true m)))))
+          by-record false m = k .totals j ∙ (sym (add-zero _) ∙ ap (λ (n : ℕ). sumOf measured j (w .threads .closed) + n) (credit j (closesNow (w .threads) op) refl false m))
 
-      flags-after : (j : ℕ) → getD (set (w .ledger .threads) at (e .usage)) j newIdle .«track_usage» ≡ trackedAfter w op j
+      flags-after : (j : ℕ) → getD (set (w .ledger .threads) at (e .usage)) j newIdle .«track_usage» ≡ trackedAfter (w .threads) op j
       flags-after j = ap (λ (u : ThreadUsage). u .«track_usage») (record-after j) ∙ by-record (eqb at j) refl
         where
-          told : flagAfter op (recordOf (w .ledger) at .«track_usage») ≡ flagAfter op (w .tracked at)
+          told : flagAfter op (recordOf (w .ledger) at .«track_usage») ≡ flagAfter op (w .threads .tracked at)
           told = ap (flagAfter op) (k .flags at)
 
-          by-record : (mine : Bool) → eqb at j ≡ mine → cond mine (e .usage) (recordOf (w .ledger) j) .«track_usage» ≡ trackedAfter w op j
+          by-record : (mine : Bool) → eqb at j ≡ mine → cond mine (e .usage) (recordOf (w .ledger) j) .«track_usage» ≡ trackedAfter (w .threads) op j
           by-record true m = law .flag ∙ (told ∙ flag-of j op m)
           by-record false m = k .flags j ∙ other-flag j op m
 
@@ -233,52 +234,52 @@ module _ (slots : ℕ) (w : World) (k : Kept slots w) where
     of-thread (since j from) i q m = let same = eqb-true j i q in (m .1 ∙ same, subst (λ (n : ℕ). n < slots) same (m .2))
 
     -- enable and disable: the mark moves on where a stretch is closed and opened, and stays elsewhere
-    altered-mark : (i : ℕ) → e .books .stamp ≡ cond (closesNow w op) (stampOf time) (b .stamp) → e .books .running ≡ b .running → at ≡ i → (c : Bool) → closesNow w op ≡ c → Marked slots (e .books) (cond c (since i time) (w .stretch))
+    altered-mark : (i : ℕ) → e .books .stamp ≡ cond (closesNow (w .threads) op) (stampOf time) (b .stamp) → e .books .running ≡ b .running → at ≡ i → (c : Bool) → closesNow (w .threads) op ≡ c → Marked slots (e .books) (cond c (since i time) (w .threads .stretch))
     altered-mark i s r a true c =
-        let own = of-thread (w .stretch) i (rw (← a) (on-concerned op c)) (k .mark) in
+        let own = of-thread (w .threads .stretch) i (rw (← a) (on-concerned op c)) (k .mark) in
         (s ∙ simp c, r ∙ own .0, own .1)
-    altered-mark i s r a false c = same-mark (w .stretch) (s ∙ simp c) r (k .mark)
+    altered-mark i s r a false c = same-mark (w .threads .stretch) (s ∙ simp c) r (k .mark)
 
   module _ (time : ℕ) (e : Entry) where
-    mark-after : (op : Operation) → EntryIs b (recordOf (w .ledger) (concerned b op)) (stampOf time) op e → past op slots ≡ false → Marked slots (e .books) (openAfter w time op)
+    mark-after : (op : Operation) → EntryIs b (recordOf (w .ledger) (concerned b op)) (stampOf time) op e → past op slots ≡ false → Marked slots (e .books) (openAfter (w .threads) time op)
     unfolding openAfter stampAfter runningAfter past concerned
     mark-after (O.Start i) law p = (law .stamp, law .running, leb-false _ _ p)
     mark-after (O.Switch i) law p = (law .stamp, law .running, leb-false _ _ p)
     mark-after O.Stop law p = law .stamp
     mark-after (O.Enable i) law p =
-        altered-mark (O.Enable i) time e law i (law .stamp ∙ ap (λ (c : Bool). cond c (stampOf time) (b .stamp)) (closing (O.Enable i))) (law .running) refl (closesNow w (O.Enable i)) refl
+        altered-mark (O.Enable i) time e law i (law .stamp ∙ ap (λ (c : Bool). cond c (stampOf time) (b .stamp)) (closing (O.Enable i))) (law .running) refl (closesNow (w .threads) (O.Enable i)) refl
     mark-after (O.Disable i) law p =
-        altered-mark (O.Disable i) time e law i (law .stamp ∙ ap (λ (c : Bool). cond c (stampOf time) (b .stamp)) (closing (O.Disable i))) (law .running) refl (closesNow w (O.Disable i)) refl
+        altered-mark (O.Disable i) time e law i (law .stamp ∙ ap (λ (c : Bool). cond c (stampOf time) (b .stamp)) (closing (O.Disable i))) (law .running) refl (closesNow (w .threads) (O.Disable i)) refl
 
   -- the chain since the last start
-  chain-after : (op : Operation) (time : ℕ) (e : Entry) → EntryIs b (recordOf (w .ledger) (concerned b op)) (stampOf time) op e → (new c : Bool) → closesNow w op ≡ c → cond new 0 (w .answered + e .cycles) ≡ chainOf measured (cond new time (cond c time (w .last))) (cond new [] (cond c (w .last ∷ w .times) (w .times)))
+  chain-after : (op : Operation) (time : ℕ) (e : Entry) → EntryIs b (recordOf (w .ledger) (concerned b op)) (stampOf time) op e → (new c : Bool) → closesNow (w .threads) op ≡ c → cond new 0 (w .answered + e .cycles) ≡ chainOf measured (cond new time (cond c time (w .threads .last))) (cond new [] (cond c (w .threads .last ∷ w .threads .times) (w .threads .times)))
   unfolding chainOf added Follows
   chain-after op time e law true c q = refl
-  chain-after op time e law false true q = rw (k .chain, cycles-of op time e law true q) (ap (λ (n : ℕ). chainOf measured (w .last) (w .times) + n) (from-last (w .stretch) (not-none (w .stretch) _ (on-concerned op q)) (k .follows)))
+  chain-after op time e law false true q = rw (k .chain, cycles-of op time e law true q) (ap (λ (n : ℕ). chainOf measured (w .threads .last) (w .threads .times) + n) (from-last (w .threads .stretch) (not-none (w .threads .stretch) _ (on-concerned op q)) (k .follows)))
     where
-      from-last : (o : Open) → isNone o ≡ false → Follows o (w .last) → added o time ≡ measured (w .last) time
+      from-last : (o : Open) → isNone o ≡ false → Follows o (w .threads .last) → added o time ≡ measured (w .threads .last) time
       from-last none n f = clash (cc)
       from-last (since i from) n f = ap (λ (t : ℕ). measured t time) f
   chain-after op time e law false false q = rw (k .chain, cycles-of op time e law false q) (add-zero _)
 
   -- an open stretch begins at the last closing or opening
-  follows-after : (op : Operation) (time : ℕ) → Follows (openAfter w time op) (cond (begins w op) time (cond (closesNow w op) time (w .last)))
+  follows-after : (op : Operation) (time : ℕ) → Follows (openAfter (w .threads) time op) (cond (begins (w .threads) op) time (cond (closesNow (w .threads) op) time (w .threads .last)))
   unfolding openAfter begins Follows closesNow
   follows-after (O.Start i) time = refl
-  follows-after (O.Switch i) time = by-test (isNone (w .stretch))
+  follows-after (O.Switch i) time = by-test (isNone (w .threads .stretch))
     where
-      by-test : (empty : Bool) → time ≡ cond empty time (cond (not empty) time (w .last))
+      by-test : (empty : Bool) → time ≡ cond empty time (cond (not empty) time (w .threads .last))
       by-test true = refl
       by-test false = refl
   follows-after O.Stop time = tt
-  follows-after (O.Enable i) time = by-test (not (w .tracked i) && isOf (w .stretch) i)
+  follows-after (O.Enable i) time = by-test (not (w .threads .tracked i) && isOf (w .threads .stretch) i)
     where
-      by-test : (c : Bool) → Follows (cond c (since i time) (w .stretch)) (cond c time (w .last))
+      by-test : (c : Bool) → Follows (cond c (since i time) (w .threads .stretch)) (cond c time (w .threads .last))
       by-test true = refl
       by-test false = k .follows
-  follows-after (O.Disable i) time = by-test (w .tracked i && isOf (w .stretch) i)
+  follows-after (O.Disable i) time = by-test (w .threads .tracked i && isOf (w .threads .stretch) i)
     where
-      by-test : (c : Bool) → Follows (cond c (since i time) (w .stretch)) (cond c time (w .last))
+      by-test : (c : Bool) → Follows (cond c (since i time) (w .threads .stretch)) (cond c time (w .threads .last))
       by-test true = refl
       by-test false = k .follows
 
@@ -307,7 +308,7 @@ step-keeps slots some ev w k =
           flags = flags-after slots w k (ev .operation) (ev .time) e law inside;
           totals = totals-after slots w k (ev .operation) (ev .time) e law inside;
           machine = machine-after slots w k (ev .operation) (ev .time) e law;
-          chain = chain-after slots w k (ev .operation) (ev .time) e law (begins w (ev .operation)) (closesNow w (ev .operation)) refl;
+          chain = chain-after slots w k (ev .operation) (ev .time) e law (begins (w .threads) (ev .operation)) (closesNow (w .threads) (ev .operation)) refl;
           follows = follows-after slots w k (ev .operation) (ev .time);
         }
 
@@ -347,11 +348,13 @@ every-run slots some es =
         never-invalid = never-invalid (w .ledger) (recorded w k);
         report-never-invalid = report-never-invalid (w .ledger) (recorded w k);
       },
-      record {
-        threads = λ i short. rw (k .totals i) (stamp-sums i (w .closed) short);
-        chain = λ short. rw (k .chain) (stamp-chain (w .last) (w .times) short);
-      },
+      λ time timely.
+          let order = in-time slots es time timely in
+          record {
+            threads = λ i short. rw (k .totals i) (stamp-sums i (w .threads .closed) (order .ordered) short);
+            chain = λ short. rw (k .chain) (stamp-chain (w .threads .last) (w .threads .times) (order .chain) short);
+          },
     )
   where
     recorded : (w : World) → Kept slots w → unrecorded (w .ledger .books) (length (w .ledger .threads)) ≡ false
-    recorded w k = rw (k .size) (marked-recorded slots (w .ledger .books) (w .stretch) (k .mark))
+    recorded w k = rw (k .size) (marked-recorded slots (w .ledger .books) (w .threads .stretch) (k .mark))

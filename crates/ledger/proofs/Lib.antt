@@ -4,5 +4,7 @@ pub mod Adding
 pub mod Entering
 pub mod Operated
 pub mod Refusing
+pub mod Timing
 pub mod Agreeing
+pub mod Fitting
 pub mod Shown

@@ -1,6 +1,6 @@
 -- Each outcome of an operation on the whole ledger, over a table of any number of slots.
 use Prim.Native.Nat.{ℕ, _≤_, _<_}
-use mathlib.Core.Path.{_≡_, sym, ap, _∙_}
+use mathlib.Core.Path.{_≡_, refl, sym, ap, _∙_}
 use mathlib.Core.Bool.{Bool, true, false, cond, not, _&&_}
 use mathlib.Core.List.{List, map}
 use lib.ListN.{length, length-map}
@@ -9,6 +9,7 @@ use borrow.Author.Tests.{leb-false, le-leb, lt-leb}
 use Rattle.error.specs.declared.Refusal.{Refusal}
 use Rattle.error.specs.declared.Refusal.the-variants.{Invalid, BadThread, Already}
 use Rattle.units.specs.declared.Cycles.{Cycles}
+use Rattle.usage.specs.declared.ThreadUsage.{ThreadUsage}
 use Rattle.ledger.specs.declared.Books.{Books}
 use Rattle.ledger.specs.declared.Entry.{Entry}
 use Rattle.ledger.specs.declared.Entered.{Entered}
@@ -20,7 +21,7 @@ use Rattle.ledger.specs.declared.Ledgered.{Ledgered}
 use Rattle.ledger.specs.declared.Reported.the-variants as R
 use Rattle.ledger.specs.Stamp.{stampOf}
 use Rattle.ledger.specs.Entries.{enterOf}
-use Rattle.ledger.specs.Operate.{unrecorded, past, busy, concerned, recordOf, refusedWith, storedIn, operateOf, reportOf}
+use Rattle.ledger.specs.Operate.{unrecorded, past, busy, entryOf, concerned, recordOf, refusedWith, storedIn, operateOf, reportOf}
 use Rattle.usage.specs.Leaves.{averageCycles}
 use Rattle.ledger.specs.Says.{enteredWhy}
 
@@ -85,3 +86,8 @@ module _ (l : Ledger) (i : ℕ) {slots : ℕ} (n : length (l .threads) ≡ slots
   pub reported : {average : Cycles} → unrecorded (l .books) slots ≡ false → i < slots → average ≡ averageCycles (recordOf l i .«total_cycles») (recordOf l i .«num_windows») → R.Accepted (record { total = recordOf l i .«total_cycles»; average = average }) ≡ reportOf l i
   unfolding reportOf
   reported e h a = simp (n, e, lt-leb _ _ h, a)
+
+-- no start while one runs: the entry is made
+pub entry-free : (b : Books) (u : ThreadUsage) (reading : Cycles) (op : Operation) → busy b op ≡ false → entryOf b u reading op ≡ enterOf b u (stampOf (reading .0)) op
+unfolding entryOf
+entry-free b u reading op free = rw free refl

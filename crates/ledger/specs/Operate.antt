@@ -75,6 +75,10 @@ storedIn l k (E.Accepted e) = record {
 }
 storedIn l k (E.Refused why) = refusedWith l why
 
+-- over the books and one record: a start while one runs is refused
+unfoldable pub entryOf : Books → ThreadUsage → Cycles → Operation → Entered
+entryOf b u reading op = inOrder ((busy b op, Already) ∷ []) E.Refused (enterOf b u (stampOf (reading .0)) op)
+
 abbrev pub operateTests : Ledger → Operation → List (Row Refusal)
 operateTests l op =
     (unrecorded (l .books) (length (l .threads)), Invalid) ∷

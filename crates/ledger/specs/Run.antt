@@ -20,21 +20,19 @@ pub data Open : Type 0 where
   none : Open
   since : ℕ → ℕ → Open
 
--- The ledger, and beside it what the accepted operations and their true times tell, never the ledger's own fields.
-pub record World : Type 0 where
-  pub ledger : Ledger
+-- What the accepted operations and their true times tell of the threads, never a ledger's own fields.
+pub record Threads : Type 0 where
   -- of the last accepted start, switch or stop, and of enable or disable that closes and opens
   pub stretch : Open
   -- of each thread, whether its last accepted enable or disable was an enable
   pub tracked : ℕ → Bool
   pub closed : List Stretch
-  -- since the last start: the time of the last closing or opening, those before it, the last first, and the sum of the cycles answered
+  -- since the last start: the time of the last closing or opening, and those before it, the last first
   pub last : ℕ
   pub times : List ℕ
-  pub answered : ℕ
 
-abbrev pub begin : ℕ → World
-begin slots = record { ledger = freshOf slots; stretch = none; tracked = λ i. false; closed = []; last = 0; times = []; answered = 0 }
+abbrev pub noneRan : Threads
+noneRan = record { stretch = none; tracked = λ i. false; closed = []; last = 0; times = [] }
 
 abbrev pub isNone : Open → Bool
 isNone none = true
@@ -45,60 +43,67 @@ isOf none i = false
 isOf (since j from) i = eqb j i
 
 -- whether an operation closes the open stretch
-unfoldable pub closesNow : World → Operation → Bool
-closesNow w (O.Start i) = false
-closesNow w (O.Switch i) = not (isNone (w .stretch))
-closesNow w O.Stop = not (isNone (w .stretch))
-closesNow w (O.Enable i) = not (w .tracked i) && isOf (w .stretch) i
-closesNow w (O.Disable i) = w .tracked i && isOf (w .stretch) i
+unfoldable pub closesNow : Threads → Operation → Bool
+closesNow t (O.Start i) = false
+closesNow t (O.Switch i) = not (isNone (t .stretch))
+closesNow t O.Stop = not (isNone (t .stretch))
+closesNow t (O.Enable i) = not (t .tracked i) && isOf (t .stretch) i
+closesNow t (O.Disable i) = t .tracked i && isOf (t .stretch) i
 
 -- a start, or a switch that acts as one
-unfoldable pub begins : World → Operation → Bool
-begins w (O.Start i) = true
-begins w (O.Switch i) = isNone (w .stretch)
-begins w O.Stop = false
-begins w (O.Enable i) = false
-begins w (O.Disable i) = false
+unfoldable pub begins : Threads → Operation → Bool
+begins t (O.Start i) = true
+begins t (O.Switch i) = isNone (t .stretch)
+begins t O.Stop = false
+begins t (O.Enable i) = false
+begins t (O.Disable i) = false
 
-unfoldable pub openAfter : World → ℕ → Operation → Open
-openAfter w time (O.Start i) = since i time
-openAfter w time (O.Switch i) = since i time
-openAfter w time O.Stop = none
-openAfter w time (O.Enable i) = cond (closesNow w (O.Enable i)) (since i time) (w .stretch)
-openAfter w time (O.Disable i) = cond (closesNow w (O.Disable i)) (since i time) (w .stretch)
+unfoldable pub openAfter : Threads → ℕ → Operation → Open
+openAfter t time (O.Start i) = since i time
+openAfter t time (O.Switch i) = since i time
+openAfter t time O.Stop = none
+openAfter t time (O.Enable i) = cond (closesNow t (O.Enable i)) (since i time) (t .stretch)
+openAfter t time (O.Disable i) = cond (closesNow t (O.Disable i)) (since i time) (t .stretch)
 
-unfoldable pub trackedAfter : World → Operation → ℕ → Bool
-trackedAfter w (O.Start i) j = w .tracked j
-trackedAfter w (O.Switch i) j = w .tracked j
-trackedAfter w O.Stop j = w .tracked j
-trackedAfter w (O.Enable i) j = cond (eqb i j) true (w .tracked j)
-trackedAfter w (O.Disable i) j = cond (eqb i j) false (w .tracked j)
+unfoldable pub trackedAfter : Threads → Operation → ℕ → Bool
+trackedAfter t (O.Start i) j = t .tracked j
+trackedAfter t (O.Switch i) j = t .tracked j
+trackedAfter t O.Stop j = t .tracked j
+trackedAfter t (O.Enable i) j = cond (eqb i j) true (t .tracked j)
+trackedAfter t (O.Disable i) j = cond (eqb i j) false (t .tracked j)
 
 -- the open stretch, closed at this time
-abbrev pub shut : World → ℕ → Open → List Stretch
-shut w time none = w .closed
-shut w time (since i from) = record { thread = i; tracked = w .tracked i; from = from; to = time } ∷ w .closed
+abbrev pub shut : Threads → ℕ → Open → List Stretch
+shut t time none = t .closed
+shut t time (since i from) = record { thread = i; tracked = t .tracked i; from = from; to = time } ∷ t .closed
+
+-- an accepted operation at a true time
+abbrev pub operated : Threads → Operation → ℕ → Threads
+operated t op time = record {
+  stretch = openAfter t time op;
+  tracked = trackedAfter t op;
+  closed = cond (closesNow t op) (shut t time (t .stretch)) (t .closed);
+  last = cond (begins t op) time (cond (closesNow t op) time (t .last));
+  times = cond (begins t op) [] (cond (closesNow t op) (t .last ∷ t .times) (t .times));
+}
+
+-- the cycles answered since the last start, summed
+abbrev pub answeredAfter : Threads → Operation → ℕ → ℕ → ℕ
+answeredAfter t op sum cycles = cond (begins t op) 0 (sum + cycles)
+
+-- The ledger, and beside it what an onlooker keeps.
+pub record World : Type 0 where
+  pub ledger : Ledger
+  pub threads : Threads
+  pub answered : ℕ
+
+abbrev pub begin : ℕ → World
+begin slots = record { ledger = freshOf slots; threads = noneRan; answered = 0 }
 
 -- what an operation at a true time leaves, whose reading is that time; a refused one leaves all but the ledger as it was
 abbrev pub afterAnswer : World → Event → Ledger → Answer → World
-afterAnswer w e l (A.Accepted cycles) = record {
-  ledger = l;
-  stretch = openAfter w (e .time) (e .operation);
-  tracked = trackedAfter w (e .operation);
-  closed = cond (closesNow w (e .operation)) (shut w (e .time) (w .stretch)) (w .closed);
-  last = cond (begins w (e .operation)) (e .time) (cond (closesNow w (e .operation)) (e .time) (w .last));
-  times = cond (begins w (e .operation)) [] (cond (closesNow w (e .operation)) (w .last ∷ w .times) (w .times));
-  answered = cond (begins w (e .operation)) 0 (w .answered + cycles);
-}
-afterAnswer w e l (A.Refused why) = record {
-  ledger = l;
-  stretch = w .stretch;
-  tracked = w .tracked;
-  closed = w .closed;
-  last = w .last;
-  times = w .times;
-  answered = w .answered;
-}
+afterAnswer w e l (A.Accepted cycles) = record { ledger = l; threads = operated (w .threads) (e .operation) (e .time); answered = answeredAfter (w .threads) (e .operation) (w .answered) cycles }
+afterAnswer w e l (A.Refused why) = record { ledger = l; threads = w .threads; answered = w .answered }
 
 unfoldable pub step : Event → World → World
 step e w = afterAnswer w e (operateOf (w .ledger) (record { 0 = e .time }) (e .operation) .ledger) (operateOf (w .ledger) (record { 0 = e .time }) (e .operation) .answer)

@@ -42,10 +42,9 @@ off time = cond (multiple time) 1 0
 abbrev pub edge : ℕ → ℕ → ℕ
 edge from to = cond (multiple from || multiple to) 1 0
 
--- in order, and within 2^32 - 2 cycles
-pub record Short (from to : ℕ) : Type 0 where
-  pub order : from ≤ to
-  pub within : to - from ≤ 2 ^ 32 - 2
+-- no longer than 2^32 - 2 cycles
+abbrev pub Short : ℕ → ℕ → Type 0
+Short from to = to - from ≤ 2 ^ 32 - 2
 
 -- a thread's tracked stretches; what others do is not asked
 abbrev pub AllShort : ℕ → List Stretch → Type 0
@@ -64,6 +63,15 @@ firstOf time (t ∷ rest) = firstOf t rest
 abbrev pub ChainShort : ℕ → List ℕ → Type 0
 ChainShort time [] = Unit {0}
 ChainShort time (t ∷ rest) = Short t time × ChainShort t rest
+
+-- no time falls: every stretch ends when it began or later, and so do those of a chain
+abbrev pub Ordered : List Stretch → Type 0
+Ordered [] = Unit {0}
+Ordered (s ∷ rest) = (s .from ≤ s .to) × Ordered rest
+
+abbrev pub ChainOrdered : ℕ → List ℕ → Type 0
+ChainOrdered time [] = Unit {0}
+ChainOrdered time (t ∷ rest) = (t ≤ time) × ChainOrdered t rest
 
 -- two numbers differ by at most a third
 pub record Within (a b most : ℕ) : Type 0 where

@@ -4,7 +4,7 @@ ghost use mathlib.Core.Bool.{cond};
 ghost use lib.Dec.{eqb};
 ghost use Rattle.ledger.specs.Stamp.{stampOf};
 ghost use Rattle.ledger.specs.Entries.{runs, charged, closeOf, stopOf, switchOf, altered, reopenOf, alterOf, enterOf, openOf};
-ghost use Rattle.ledger.specs.Operate.{nothingBooked, freshOf, unrecorded, past, busy, concerned, refusedWith, operateOf, reportOf};
+ghost use Rattle.ledger.specs.Operate.{nothingBooked, freshOf, unrecorded, past, busy, entryOf, concerned, refusedWith, operateOf, reportOf};
 ghost use Rattle.ledger.specs.Says.{answerSays, reportedSays, enteredWhy};
 use error::Refusal;
 use units::Cycles;
@@ -212,9 +212,8 @@ fn reopened(books: Books, usage: ThreadUsage, now: u32, thread: u32, on: bool) -
     })
 }
 
-// The core of an operation: it gets the one record concerned and gives it back, at the same cost for any number of threads.
-// It makes no test of its own: whoever calls it has made those of `operate`, and has the stamp from `stamp_of`.
-pub fn enter(books: Books, usage: ThreadUsage, now: u32, operation: Operation) -> Entered
+// An operation's entry at a stamp, once its tests are made.
+fn enter_at(books: Books, usage: ThreadUsage, now: u32, operation: Operation) -> Entered
     ensures { λ r. ⌜ r ≡ enterOf books usage now operation ⌝ }
 {
     match operation {
@@ -276,6 +275,17 @@ pub fn busy(books: Books, operation: Operation) -> bool
     }
 }
 
+// An operation over the books and the one record that it concerns, which is given back: the same cost for any number of
+// threads. Which record that is `concerned` tells, and whether the table has it `past` and `unrecorded`.
+pub fn enter(books: Books, usage: ThreadUsage, reading: Cycles, operation: Operation) -> Entered
+    ensures { λ r. ⌜ r ≡ entryOf books usage reading operation ⌝ }
+{
+    if busy(books, operation) {
+        return Entered::Refused(Refusal::Already);
+    }
+    enter_at(books, usage, stamp_of(reading), operation)
+}
+
 // The thread that goes, or the one that the operation names where none goes.
 fn going(books: Books, named: u32) -> u32
     ensures { λ r. ⌜ r ≡ cond (eqb (books .stamp) 0) named (books .running) ⌝ }
@@ -325,7 +335,7 @@ pub fn operate(ledger: Ledger, reading: Cycles, operation: Operation) -> Ledgere
     let thread = concerned(books, operation);
     let k = thread as usize;
     let usage = ledger.threads[k];
-    let entered = enter(books, usage, stamp_of(reading), operation);
+    let entered = enter_at(books, usage, stamp_of(reading), operation);
     let Entered::Accepted(entry) = entered else {
         return refused(ledger, entered.refusal());
     };

@@ -35,7 +35,7 @@ use Rattle.machine.specs.declared.tasks.Task.the-variants as T
 use Rattle.machine.specs.Task.{taskOf, askedBy}
 use Rattle.machine.specs.Table.{malformed, table}
 use Rattle.machine.specs.Step.{turned, enteredStep, announcedStep, effectOf, taskStep, decodedStep, coreStepOf, slotOf, coreOf, machineOf, steppedFrom, stepOf}
-use Rattle.machine.specs.Laws.{announceRows, lastRows, recordRows, everyRow, Operates, EveryRefusal}
+use Rattle.machine.specs.Laws.{announceRows, lastRows, recordRows, everyRow, Operates, answerTo, timed, EveryRefusal}
 use Rattle.machine.proofs.Refusing.{exactly}
 
 -- a step that is refused for anything but a sum or window changes neither core nor record
@@ -125,6 +125,11 @@ module _ (m : Machine) where
   entered-timer there u (E.Accepted e) = refl
   entered-timer there u (E.Refused why) = refl
 
+  entered-ready : (there : Core) (u : ThreadUsage) (x : Entered) → enteredStep there u x .core .ready ≡ there .ready
+  unfolding enteredStep
+  entered-ready there u (E.Accepted e) = refl
+  entered-ready there u (E.Refused why) = refl
+
   pub operated-timer : (r : Record) (op : Operation) (g : Gaps) → taskOf r ≡ T.Operate op g → malformed c slots ≡ false → NoneHolds (rowsOf (taskOf r)) → stepOf m (D.Accepted r) .machine .timer ≡ sampleValue (m .timer) g .timer
   unfolding effectOf
   operated-timer r op g e whole none = rw (effect-had r whole none _ refl, e) (entered-timer _ _ _)
@@ -150,16 +155,25 @@ module _ (m : Machine) where
       let had = effect-had r whole none _ refl in
       rw (had, e) (entered-kept _ _ _ refl (rw (had, e) at q))
 
-  kept-sample : (d : Decoded) (r : Record) (g : Gaps) → d ≡ D.Accepted r → Operates r g → stepOf m d .outcome ≡ O.Refused Why.WontFit → (stepOf m d .machine .ledger ≡ m .ledger) × (stepOf m d .machine .timer ≡ stepOf m (D.Accepted (K.Sample g)) .machine .timer)
+  sampled-outcome : (g : Gaps) → malformed c slots ≡ false → NoneHolds (rowsOf (T.Sample g)) → stepOf m (D.Accepted (K.Sample g)) .outcome ≡ O.Accepted (answerTo m (K.Sample g))
+  unfolding effectOf taskOf answerTo
+  sampled-outcome g whole none = ap (λ s. s .outcome) (effect-had (K.Sample g) whole none _ refl)
+
+  pub stays-ready : (r : Record) (op : Operation) (g : Gaps) → taskOf r ≡ T.Operate op g → malformed c slots ≡ false → NoneHolds (rowsOf (taskOf r)) → stepOf m (D.Accepted r) .machine .ready ≡ m .ready
+  unfolding effectOf
+  stays-ready r op g e whole none = rw (effect-had r whole none _ refl, e) (entered-ready _ _ _)
+
+  kept-sample : (d : Decoded) (r : Record) (g : Gaps) → d ≡ D.Accepted r → Operates r g → stepOf m d .outcome ≡ O.Refused Why.WontFit → (stepOf m d .machine ≡ timed m (stepOf m (D.Accepted (K.Sample g)) .machine .timer)) × (stepOf m (D.Accepted (K.Sample g)) .outcome ≡ O.Accepted (answerTo m (K.Sample g)))
   kept-sample d r g ed operates e =
       let op = operates .0 in
       let task = operates .1 in
       let there : stepOf m (D.Accepted r) .outcome ≡ O.Refused Why.WontFit = subst (λ (x : Decoded). stepOf m x .outcome ≡ O.Refused Why.WontFit) ed e in
       let p = passed r (exactly m (D.Accepted r) .refused Why.WontFit .0 there) in
-      rw ed (
-        refused-ledger r op g task (p .0) (p .1) there,
-        operated-timer r op g task (p .0) (p .1) ∙ sym (sampled-timer g (p .0) (sample-passes op g (subst (λ (t : Task). NoneHolds (rowsOf t)) task (p .1)))),
-      )
+      let sample = sample-passes op g (subst (λ (t : Task). NoneHolds (rowsOf t)) task (p .1)) in
+      let ready = stays-ready r op g task (p .0) (p .1) in
+      let timer = operated-timer r op g task (p .0) (p .1) ∙ sym (sampled-timer g (p .0) sample) in
+      let ledger = refused-ledger r op g task (p .0) (p .1) there in
+      (rw ed (λ i. record { ready = ready i; timer = timer i; ledger = ledger i }), sampled-outcome g (p .0) sample)
 
   -- nothing but an operation has a sum
   by-task : (task : Task) → FirstIs (lastRows m task) Why.WontFit → (op : Operation) × (g : Gaps) × (task ≡ T.Operate op g)
@@ -191,5 +205,5 @@ module _ (m : Machine) where
       no-row (inl here) = clash (let e = here .1 in cc)
       no-row (inr later) = at-record (later .1)
 
-pub every-refusal : EveryRefusal
+pub every-refusal : EveryRefusal stepOf
 every-refusal m d = (exactly m d, record { untouched = untouched m d; sampled = kept-sample m d; only-operations = only-operations m d })

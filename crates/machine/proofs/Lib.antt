@@ -4,3 +4,4 @@ pub mod Shown
 pub mod Refusing
 pub mod Keeping
 pub mod Stepping
+pub mod Answering

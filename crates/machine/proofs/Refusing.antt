@@ -13,12 +13,14 @@ use Rattle.usage.specs.declared.ThreadUsage.{ThreadUsage}
 use Rattle.clock.specs.declared.Announced.{Announced}
 use Rattle.clock.specs.declared.Announced.the-variants as A
 use Rattle.clock.specs.Timer.{wellFormed}
+use Rattle.clock.specs.Sample.{sampleValue}
 use Rattle.ledger.specs.declared.Books.{Books}
 use Rattle.ledger.specs.declared.Entered.{Entered}
 use Rattle.ledger.specs.declared.Entered.the-variants as E
 use Rattle.ledger.specs.declared.Operation.{Operation}
 use Rattle.ledger.specs.declared.Operation.the-variants as P
 use Rattle.ledger.specs.Operate.{unrecorded, past, concerned, recordOf}
+use Rattle.ledger.proofs.Operating.{entry-free}
 use Rattle.ledger.proofs.Refusing.{EntryBy, entry-by}
 use Rattle.trace.specs.declared.Decoded.{Decoded}
 use Rattle.trace.specs.declared.Decoded.the-variants as D
@@ -93,7 +95,10 @@ unfolding effectOf lastRows verdictOf askedBy threadOf
 effect-verdict m (T.Run p) whole none k e = refl
 effect-verdict m (T.Sample g) whole none k e = refl
 effect-verdict m (T.Operate op g) whole none k e =
-    rw (e ∙ slot-is (m .ledger .books) op (length (m .ledger .threads)) (recorded-of (coreOf m) (length (m .ledger .threads)) (ready-of (m .ready) (none .1 .0)) whole) (none .1 .1 .1 .0))
+    rw (
+      e ∙ slot-is (m .ledger .books) op (length (m .ledger .threads)) (recorded-of (coreOf m) (length (m .ledger .threads)) (ready-of (m .ready) (none .1 .0)) whole) (none .1 .1 .1 .0),
+      entry-free (m .ledger .books) (recordOf (m .ledger) (concerned (m .ledger .books) op)) (sampleValue (m .timer) g .reading) op (none .1 .1 .1 .1 .0),
+    )
     (entered-verdict _ _ _ _ (entry-by (m .ledger .books) (recordOf (m .ledger) (concerned (m .ledger .books) op)) _ op))
 effect-verdict m T.Announce whole none k e = announced-verdict _ _ _
 effect-verdict m (T.Report i) whole none k e = refl
@@ -129,7 +134,7 @@ accepted-is (O.Accepted values) e = (values, refl)
 accepted-is (O.Refused other) e = clash (cc)
 
 module _ (m : Machine) (d : Decoded) where
-  pub exactly : Exactly m d
+  pub exactly : Exactly stepOf m d
   unfolding verdictOf
   exactly = record {
     refused = λ why. (

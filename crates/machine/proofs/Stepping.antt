@@ -7,12 +7,10 @@ use lib.ListN.{length, set}
 use lib.Seq.{set-getD}
 use lib.Dec.{eqb}
 use Rattle.error.specs.InOrder.{Row, NoneHolds}
-use Rattle.usage.specs.declared.ThreadUsage.{ThreadUsage}
 use Rattle.usage.specs.Record.{newIdle}
 use Rattle.counter.specs.Cycle.{runN}
 use Rattle.counter.specs.Entries.{goodPeriod}
 use Rattle.clock.specs.declared.Gaps.{Gaps}
-use Rattle.clock.specs.declared.Timer.{Timer}
 use Rattle.clock.specs.declared.Announcement.{Announcement}
 use Rattle.clock.specs.declared.Announced.the-variants as A
 use Rattle.clock.specs.Timer.{setup}
@@ -21,9 +19,8 @@ use Rattle.clock.specs.Announce.{announceOf}
 use Rattle.ledger.specs.declared.Entered.{Entered}
 use Rattle.ledger.specs.declared.Entered.the-variants as E
 use Rattle.ledger.specs.declared.Ledger.{Ledger}
-use Rattle.ledger.specs.Entries.{enterOf}
-use Rattle.ledger.specs.Stamp.{stampOf}
 use Rattle.ledger.specs.Operate.{concerned, recordOf, storedIn, operateOf, freshOf}
+use Rattle.ledger.proofs.Operating.{entry-free}
 use Rattle.trace.specs.declared.Record.{Record}
 use Rattle.trace.specs.declared.Record.the-variants as K
 use Rattle.trace.specs.declared.Setup.{Setup}
@@ -38,8 +35,8 @@ use Rattle.machine.specs.declared.tasks.Task.{Task}
 use Rattle.machine.specs.Task.{taskOf, askedBy, threadOf}
 use Rattle.machine.specs.Table.{malformed, table}
 use Rattle.machine.specs.Accepts.{Runs, Samples, Accepts}
-use Rattle.machine.specs.Step.{withTimer, enteredStep, announcedStep, effectOf, decodedThread, slotOf, coreOf, steppedFrom, stepOf}
-use Rattle.machine.specs.Laws.{Operates, lastRows, recordRows}
+use Rattle.machine.specs.Step.{enteredStep, announcedStep, effectOf, decodedThread, slotOf, coreOf, steppedFrom, stepOf}
+use Rattle.machine.specs.Laws.{Operates, lastRows, recordRows, operationTells, timed}
 use Rattle.machine.proofs.Accepting as accepting
 use Rattle.machine.proofs.Refusing as refusing
 use Rattle.machine.proofs.Keeping as keeping
@@ -57,17 +54,14 @@ module _ (m : Machine) where
   abbrev slots : ℕ
   slots = length (m .ledger .threads)
 
-  had : (r : Record) → Touches m r → stepOf m (D.Accepted r) ≡ steppedFrom (m .ledger .threads) (slotOf (coreOf m) slots (D.Accepted r)) (effectOf (coreOf m) (recordOf (m .ledger) (slotOf (coreOf m) slots (D.Accepted r))) (taskOf r))
+  pub had : (r : Record) → Touches m r → stepOf m (D.Accepted r) ≡ steppedFrom (m .ledger .threads) (slotOf (coreOf m) slots (D.Accepted r)) (effectOf (coreOf m) (recordOf (m .ledger) (slotOf (coreOf m) slots (D.Accepted r))) (taskOf r))
   had r t = keeping.effect-had m r (t .whole) (t .none) _ refl
 
   -- the record of a slot stored back as it was
   same-ledger : (k : ℕ) → record { books = m .ledger .books; threads = set (m .ledger .threads) k (recordOf (m .ledger) k) } ≡ m .ledger
   same-ledger k = rw (set-getD (m .ledger .threads) k newIdle) refl
 
-  abbrev timed : Timer → Machine
-  timed timer = record { ready = m .ready; timer = timer; ledger = m .ledger }
-
-  pub ran : (p : ℕ) → Touches m (K.Run p) → stepOf m (D.Accepted (K.Run p)) .machine ≡ timed (record { counter = runN p (m .timer .counter); clock = m .timer .clock })
+  pub ran : (p : ℕ) → Touches m (K.Run p) → stepOf m (D.Accepted (K.Run p)) .machine ≡ timed m (record { counter = runN p (m .timer .counter); clock = m .timer .clock })
   unfolding effectOf taskOf
   ran p t = ap (λ s. s .machine) (had (K.Run p) t) ∙ ap (λ (l : Ledger). record { ready = m .ready; timer = record { counter = runN p (m .timer .counter); clock = m .timer .clock }; ledger = l }) (same-ledger _)
 
@@ -75,7 +69,7 @@ module _ (m : Machine) where
   unfolding Accepts taskOf
   runs-accepted p t = accepting.accepted (coreOf m) slots (t .whole) (taskOf (K.Run p)) (t .none)
 
-  pub sampled : (g : Gaps) → Touches m (K.Sample g) → stepOf m (D.Accepted (K.Sample g)) .machine ≡ timed (sampleValue (m .timer) g .timer)
+  pub sampled : (g : Gaps) → Touches m (K.Sample g) → stepOf m (D.Accepted (K.Sample g)) .machine ≡ timed m (sampleValue (m .timer) g .timer)
   unfolding effectOf taskOf
   sampled g t = ap (λ s. s .machine) (had (K.Sample g) t) ∙ ap (λ (l : Ledger). record { ready = m .ready; timer = sampleValue (m .timer) g .timer; ledger = l }) (same-ledger _)
 
@@ -91,7 +85,7 @@ module _ (m : Machine) where
   unfolding effectOf taskOf
   reported i t = ap (λ s. s .machine) (had (K.Report i) t) ∙ ap (λ (l : Ledger). record { ready = m .ready; timer = m .timer; ledger = l }) (same-ledger _)
 
-  pub announced : (a : Announcement) → announceOf (m .timer) ≡ A.Accepted a → Touches m K.Announce → stepOf m (D.Accepted K.Announce) .machine ≡ timed (a .timer)
+  pub announced : (a : Announcement) → announceOf (m .timer) ≡ A.Accepted a → Touches m K.Announce → stepOf m (D.Accepted K.Announce) .machine ≡ timed m (a .timer)
   unfolding effectOf taskOf announcedStep
   announced a e t = ap (λ s. s .machine) (had K.Announce t) ∙ rw e (ap (λ (l : Ledger). record { ready = m .ready; timer = a .timer; ledger = l }) (same-ledger _))
 
@@ -113,15 +107,23 @@ module _ (m : Machine) where
       let recorded = refusing.recorded-of (coreOf m) slots ready (t .whole) in
       let at = refusing.slot-is (m .ledger .books) op slots recorded (none .1 .1 .1 .0) in
       ap (λ s. s .machine .ledger) (had r t) ∙
-      rw (o .1, at, recorded, none .1 .1 .1 .0, none .1 .1 .1 .1 .0) (stored (concerned (m .ledger .books) op) _ _ refl)
+      rw (o .1, at, recorded, none .1 .1 .1 .0, none .1 .1 .1 .1 .0, entry-free (m .ledger .books) (recordOf (m .ledger) (concerned (m .ledger .books) op)) (sampleValue (m .timer) g .reading) op (none .1 .1 .1 .1 .0)) (stored (concerned (m .ledger .books) op) _ _ refl)
 
-  pub stays-ready : (r : Record) (g : Gaps) (o : Operates r g) → Touches m r → stepOf m (D.Accepted r) .machine .ready ≡ m .ready
-  unfolding effectOf enteredStep
-  stays-ready r g o t = ap (λ s. s .machine .ready) (had r t) ∙ rw (o .1) (same-ready (withTimer (coreOf m) (sampleValue (m .timer) g .timer)) (recordOf (m .ledger) (slotOf (coreOf m) slots (D.Accepted r))) (enterOf (m .ledger .books) (recordOf (m .ledger) (slotOf (coreOf m) slots (D.Accepted r))) (stampOf (sampleValue (m .timer) g .reading .0)) (o .0)))
-    where
-      same-ready : (there : Core) (u : ThreadUsage) (x : Entered) → enteredStep there u x .core .ready ≡ there .ready
-      same-ready there u (E.Accepted e) = refl
-      same-ready there u (E.Refused why) = refl
+  -- and its outcome the ledger's answer
+  told : (k : ℕ) (there : Core) (x : Entered) → steppedFrom (m .ledger .threads) k (enteredStep there (recordOf (m .ledger) k) x) .outcome ≡ operationTells (storedIn (m .ledger) k x .answer)
+  unfolding enteredStep storedIn operationTells
+  told k there (E.Accepted e) = refl
+  told k there (E.Refused why) = refl
+
+  pub answered : (r : Record) (g : Gaps) (o : Operates r g) → m .ready ≡ true → Touches m r → stepOf m (D.Accepted r) .outcome ≡ operationTells (operateOf (m .ledger) (sampleValue (m .timer) g .reading) (o .0) .answer)
+  unfolding effectOf operateOf slotOf decodedThread threadOf askedBy
+  answered r g o ready t =
+      let op = o .0 in
+      let none = subst (λ (task : Task). NoneHolds (table (coreOf m) (askedBy (m .ledger .books) slots task))) (o .1) (t .none) in
+      let recorded = refusing.recorded-of (coreOf m) slots ready (t .whole) in
+      let at = refusing.slot-is (m .ledger .books) op slots recorded (none .1 .1 .1 .0) in
+      ap (λ s. s .outcome) (had r t) ∙
+      rw (o .1, at, recorded, none .1 .1 .1 .0, none .1 .1 .1 .1 .0, entry-free (m .ledger .books) (recordOf (m .ledger) (concerned (m .ledger .books) op)) (sampleValue (m .timer) g .reading) op (none .1 .1 .1 .1 .0)) (told (concerned (m .ledger .books) op) _ _)
 
   -- what was accepted was touched, and so was a sum that did not fit
   pub touches-accepted : (r : Record) (values : Values) → stepOf m (D.Accepted r) .outcome ≡ O.Accepted values → Touches m r

@@ -20,9 +20,7 @@ use Rattle.ledger.specs.declared.Books.{Books}
 use Rattle.ledger.specs.declared.Operation.{Operation}
 use Rattle.ledger.specs.declared.Entered.{Entered}
 use Rattle.ledger.specs.declared.Entered.the-variants as E
-use Rattle.ledger.specs.Stamp.{stampOf}
-use Rattle.ledger.specs.Entries.{enterOf}
-use Rattle.ledger.specs.Operate.{nothingBooked, freshOf, recordOf}
+use Rattle.ledger.specs.Operate.{entryOf, nothingBooked, freshOf, recordOf}
 use Rattle.trace.specs.declared.Setup.{Setup}
 use Rattle.trace.specs.declared.Decoded.{Decoded}
 use Rattle.trace.specs.declared.Decoded.the-variants as D
@@ -66,7 +64,7 @@ enteredStep c u (E.Accepted e) = done (withBooks c (e .books)) (e .usage) (e .cy
 enteredStep c u (E.Refused why) = turned c u Why.WontFit
 
 abbrev pub operatedStep : Core → ThreadUsage → Operation → SampleTaken → CoreStep
-operatedStep c u op taken = enteredStep (withTimer c (taken .timer)) u (enterOf (c .books) u (stampOf (taken .reading .0)) op)
+operatedStep c u op taken = enteredStep (withTimer c (taken .timer)) u (entryOf (c .books) u (taken .reading) op)
 
 -- Announce: dticks, announced. What the leaf refuses changes nothing.
 unfoldable pub announcedStep : Core → ThreadUsage → Announced → CoreStep

@@ -126,7 +126,7 @@ fn operate_effect(core: Core, usage: ThreadUsage, operation: Operation, gaps: Ga
     };
     let after = taken.timer;
     let reading = taken.reading;
-    let entered = ledger::enter(books, usage, ledger::stamp_of(reading), operation);
+    let entered = ledger::enter(books, usage, reading, operation);
     entry_effect(with_timer(core, after), usage, entered)
 }
 

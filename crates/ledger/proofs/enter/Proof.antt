@@ -1,29 +1,17 @@
--- `enter` hands each operation to its own function.
-use mathlib.Core.Path.{_∙_, sym, ap}
-use Rattle.ledger.specs.Entries.{enterOf}
+-- `enter` turns a start away while one runs, and else enters at the reading's stamp.
+use mathlib.Core.Path.{_∙_, refl, sym}
+use Rattle.ledger.specs.Operate.{entryOf}
 use borrow.Author.Needs.{needs}
 use Rattle.ledger.proofs.enter.Statement.{statement}
 use Rattle.ledger.proofs.enter.Tie as tie
 
 returns : tie.Need-returns
-unfolding enterOf
-returns c = rw (c .opened .ensures) (sym (ap (enterOf (c .before .before .before .before .args .books) (c .before .before .before .before .args .usage) (c .before .before .before .before .args .now)) (c .before .before .operation .given .1)))
+unfolding entryOf
+returns c = rw (sym (c .before .busy .ensures) ∙ c .if1 .taken) refl
 
 returns-2 : tie.Need-returns-2
-unfolding enterOf
-returns-2 c = c .switched .ensures ∙ sym (ap (enterOf (c .before .before .before .before .args .books) (c .before .before .before .before .args .usage) (c .before .before .before .before .args .now)) (c .before .before .operation2 .given .1))
-
-returns-3 : tie.Need-returns-3
-unfolding enterOf
-returns-3 c = c .stopped .ensures ∙ sym (ap (enterOf (c .before .before .before .args .books) (c .before .before .before .args .usage) (c .before .before .before .args .now)) (c .before .enum-told .given .1))
-
-returns-4 : tie.Need-returns-4
-unfolding enterOf
-returns-4 c = c .flagged .ensures ∙ sym (ap (enterOf (c .before .before .before .before .args .books) (c .before .before .before .before .args .usage) (c .before .before .before .before .args .now)) (c .before .before .operation3 .given .1))
-
-returns-5 : tie.Need-returns-5
-unfolding enterOf
-returns-5 c = c .flagged2 .ensures ∙ sym (ap (enterOf (c .before .before .before .before .args .books) (c .before .before .before .before .args .usage) (c .before .before .before .before .args .now)) (c .before .before .operation4 .given .1))
+unfolding entryOf
+returns-2 c = rw (c .enter-at .ensures, c .before .stamp-of .ensures, sym (c .before .before .before .busy .ensures) ∙ c .before .before .if1 .left) refl
 
 pub enter-spec : {M : Type 1} → statement M
-enter-spec = tie.close (tie.spec (λ c. search needs) (λ c κs. search needs) (λ c. search needs) (λ c κs. search needs) (λ c. search needs) (λ c κs. search needs) (λ c. search needs) (λ c κs. search needs) (λ c. search needs) (λ c κs. search needs) returns returns-2 returns-3 returns-4 returns-5)
+enter-spec = tie.close (tie.spec (λ c κs. search needs) returns (λ c κs. search needs) (λ c κs. search needs) returns-2)

@@ -1,4 +1,4 @@
--- `operate_effect` samples, and enters the operation at the reading's stamp.
+-- `operate_effect` samples, and enters the operation at its reading.
 use mathlib.Core.Path.{refl, _∙_}
 use Rattle.machine.proofs.Accepting.{never-sampled, sampled-is}
 use borrow.Author.Needs.{needs}
@@ -9,7 +9,7 @@ returns : tie.Need-returns
 returns c = absurd (never-sampled (c .before .before .before .sample .ensures ∙ c .before .before .before .before .before .before .pre) (c .before .enum-told .given .1))
 
 returns-2 : tie.Need-returns-2
-returns-2 c = rw (c .entry-effect .ensures, c .before .with-timer .ensures, c .before .before .enter .ensures, c .before .before .before .stamp-of .ensures, sampled-is (c .before .before .before .before .before .before .before .sampled .given .1) (c .before .before .before .before .before .before .before .before .before .sample .ensures ∙ c .before .before .before .before .before .before .before .before .before .before .before .before .pre)) refl
+returns-2 c = rw (c .entry-effect .ensures, c .before .with-timer .ensures, c .before .before .enter .ensures, sampled-is (c .before .before .before .before .before .before .sampled .given .1) (c .before .before .before .before .before .before .before .before .sample .ensures ∙ c .before .before .before .before .before .before .before .before .before .before .before .pre)) refl
 
 pub operate-effect-spec : {M : Type 1} → statement M
-operate-effect-spec = tie.close (tie.spec (λ c κs. search needs) (λ c. search needs) (λ c. search needs) (λ c κs. search needs) returns (λ c κs. search needs) (λ c κs. search needs) (λ c κs. search needs) (λ c κs. search needs) returns-2)
+operate-effect-spec = tie.close (tie.spec (λ c κs. search needs) (λ c. search needs) (λ c. search needs) (λ c κs. search needs) returns (λ c κs. search needs) (λ c κs. search needs) (λ c κs. search needs) returns-2)

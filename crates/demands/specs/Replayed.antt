@@ -1,0 +1,26 @@
+-- The run that the demands speak of is the one whose lines a trace's text has.
+use Prim.Native.Nat.{ℕ, _%_, _<_}
+use mathlib.Core.Path.{_≡_}
+use mathlib.Core.List.{List, _∷_}
+use lib.ListN.{length}
+use Rattle.clock.specs.Holds.{GoodSetup}
+use Rattle.trace.specs.declared.Record.the-variants as K
+use Rattle.trace.specs.declared.Decoded.{Decoded}
+use Rattle.trace.specs.declared.Decoded.the-variants as D
+use Rattle.machine.specs.Step.{freshMachine, stepOf}
+use Rattle.transcript.specs.Replay.{machineAfter, wholeRecords, lastText, lastOf}
+use Rattle.demands.specs.Trace.{Watched, watchAll, setUp, FairTrace}
+
+-- the onlooker changes nothing: the machine is the one that the records leave
+abbrev pub SameRun : Type 0
+SameRun = (ds : List Decoded) (w : Watched) → watchAll stepOf ds w .machine ≡ machineAfter (w .machine) ds
+
+-- a trace that begins with a setup, and is fair from there on, ends with the cycles run, and with those run by the last C
+abbrev pub EndsTrue : Type 0
+EndsTrue =
+    (slots period tick : ℕ) → 0 < slots → GoodSetup period tick →
+    (trace : List ℕ) (ds : List Decoded) →
+    wholeRecords trace ≡ D.Accepted (K.Setup (record { period = period; tick = tick })) ∷ ds →
+    FairTrace stepOf period ds (setUp stepOf slots period tick) →
+    let w = watchAll stepOf ds (setUp stepOf slots period tick) in
+    lastOf (length trace % 16) (machineAfter (freshMachine slots) (wholeRecords trace)) ≡ lastText (length trace % 16) (w .ran) (w .atC)

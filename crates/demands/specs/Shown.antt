@@ -1,0 +1,98 @@
+-- Traces that show what the demands are worth: their premises are met, each of them is needed, and their bounds are attained.
+use Prim.Native.Nat.{ℕ, _+_, _-_, _<_, _≤_}
+use mathlib.Core.Path.{_≡_}
+use mathlib.Core.List.{List, [], _∷_}
+use Rattle.clock.specs.declared.Gaps.{Gaps}
+use Rattle.clock.specs.Shown.{gaps}
+use Rattle.ledger.specs.Operate.{recordOf}
+use Rattle.ledger.specs.Sums.{length, sumOf, edge, AllShort, ChainShort}
+use Rattle.trace.specs.declared.Record.{Record}
+use Rattle.trace.specs.declared.Record.the-variants as K
+use Rattle.trace.specs.declared.Decoded.{Decoded}
+use Rattle.trace.specs.declared.Decoded.the-variants as D
+use Rattle.machine.specs.Step.{stepOf}
+use Rattle.demands.specs.Trace.{Watched, wrapsBy, timeC, wholeOf, FairSample, watchAll, setUp, FairTrace}
+
+abbrev pub taken : List Record → List Decoded
+taken [] = []
+taken (r ∷ rs) = D.Accepted r ∷ taken rs
+
+abbrev pub atOnce : Gaps
+atOnce = gaps 0 0 0
+
+-- 01's printed case, after its setup
+abbrev pub printed : List Decoded
+printed =
+    taken (
+    K.Start 0 atOnce ∷
+    K.Run 9 ∷
+    K.Sample (gaps 0 2 0) ∷
+    K.Sample atOnce ∷
+    K.Announce ∷
+    K.Enable 0 atOnce ∷
+    K.Run 12 ∷
+    K.Switch 1 atOnce ∷
+    K.Report 0 ∷
+    K.Stop atOnce ∷
+    [])
+
+-- a tracked stretch that begins at 0, a multiple of 2^32
+abbrev pub from-zero : List Decoded
+from-zero = taken (K.Enable 0 atOnce ∷ K.Start 0 atOnce ∷ K.Run 9 ∷ K.Stop atOnce ∷ [])
+
+-- three stretches from one start to its stop
+abbrev pub three : List Decoded
+three = taken (K.Start 0 atOnce ∷ K.Run 3 ∷ K.Switch 1 atOnce ∷ K.Run 2 ∷ K.Enable 1 atOnce ∷ K.Run 4 ∷ K.Stop atOnce ∷ [])
+
+-- the machine and its onlooker after a trace, with period 10 and tick 4
+abbrev pub after : List Decoded → Watched
+after ds = watchAll stepOf ds (setUp stepOf 2 10 4)
+
+-- the last reading is so much at so many cycles
+abbrev pub Reads : List Record → ℕ → ℕ → Type 0
+Reads rs read cycles = (after (taken rs) .machine .timer .clock .last .0 ≡ read) × (after (taken rs) .atC ≡ cycles)
+
+-- the premises one by one, of a sample after a trace
+abbrev pub Quick : Gaps → Type 0
+Quick g = g .p + g .q < 10
+
+abbrev pub OneWrap : List Record → Gaps → Type 0
+OneWrap rs g = let w = after (taken rs) in wrapsBy 10 (timeC (w .ran) g) ≤ wrapsBy 10 (w .atC) + 1
+
+abbrev pub NoneToD : List Record → Gaps → Type 0
+NoneToD rs g = let w = after (taken rs) in wrapsBy 10 (w .atC) < wrapsBy 10 (timeC (w .ran) g) → wrapsBy 10 (w .ran + wholeOf g) ≡ wrapsBy 10 (timeC (w .ran) g)
+
+-- so many refused records leave the run as it is
+abbrev pub refused : List Decoded
+refused = taken (K.Start 9 atOnce ∷ K.Setup (record { period = 10; tick = 4 }) ∷ K.Report 2 ∷ [])
+
+pub record Shown : Type 0 where
+  -- the printed case is fair; its last reading is T, and thread 0's total its true tracked cycles
+  pub printed-fair : FairTrace stepOf 10 printed (setUp stepOf 2 10 4)
+  pub printed-reads : (after printed .machine .timer .clock .last .0 ≡ 23) × (after printed .atC ≡ 23)
+  pub printed-total : (recordOf (after printed .machine .ledger) 0 .«total_cycles» .0 ≡ 12) × (sumOf length 0 (after printed .threads .closed) ≡ 12)
+  pub printed-short : AllShort 0 (after printed .threads .closed)
+  -- a total that misses one cycle, as one edge allows
+  pub zero-fair : FairTrace stepOf 10 from-zero (setUp stepOf 2 10 4)
+  pub zero-short : AllShort 0 (after from-zero .threads .closed)
+  pub zero-total : (recordOf (after from-zero .machine .ledger) 0 .«total_cycles» .0 ≡ 8) × (sumOf length 0 (after from-zero .threads .closed) ≡ 9) × (sumOf edge 0 (after from-zero .threads .closed) ≡ 1)
+  -- and so does a sum from one start to its stop, over three stretches: answered 8, true 9
+  pub three-fair : FairTrace stepOf 10 three (setUp stepOf 2 10 4)
+  pub three-short : ChainShort (after three .threads .last) (after three .threads .times)
+  pub three-sum : (after three .printed ≡ 8) × (after three .threads .last ≡ 9) × (after three .machine .ledger .books .total .0 ≡ 8)
+  -- each premise broken alone reads 10 cycles short: a slow sample,
+  pub slow : Reads (K.Sample (gaps 0 10 0) ∷ []) 0 10
+  pub slow-alone : (Quick (gaps 0 10 0) → ⊥) × OneWrap [] (gaps 0 10 0) × NoneToD [] (gaps 0 10 0)
+  -- two wraps since the last C,
+  pub late : Reads (K.Run 20 ∷ K.Sample atOnce ∷ []) 10 20
+  pub late-alone : Quick atOnce × (OneWrap (K.Run 20 ∷ []) atOnce → ⊥) × NoneToD (K.Run 20 ∷ []) atOnce
+  -- and a wrap between C and D, after which the next sample is fair
+  pub lost : Reads (K.Run 10 ∷ K.Sample (gaps 0 0 10) ∷ K.Sample atOnce ∷ []) 10 20
+  pub lost-alone : Quick (gaps 0 0 10) × OneWrap (K.Run 10 ∷ []) (gaps 0 0 10) × (NoneToD (K.Run 10 ∷ []) (gaps 0 0 10) → ⊥)
+  pub lost-then-fair : FairSample 10 20 10 atOnce
+  -- refused records change nothing, and are as fair as any
+  pub refused-nothing : after refused ≡ after []
+  pub refused-fair : FairTrace stepOf 10 refused (setUp stepOf 2 10 4)
+  -- the lag is attained, and is above one tick: period 3, tick 2
+  pub lag : let w = watchAll stepOf (taken (K.Run 5 ∷ K.Sample atOnce ∷ K.Announce ∷ [])) (setUp stepOf 2 3 2) in (w .machine .timer .clock .last .0 ≡ w .machine .timer .clock .announced .0 + (3 + 2 - 2)) × (w .machine .timer .clock .announced .0 + 2 < w .machine .timer .clock .last .0)
+  pub lag-fair : FairTrace stepOf 3 (taken (K.Run 5 ∷ K.Sample atOnce ∷ K.Announce ∷ [])) (setUp stepOf 2 3 2)

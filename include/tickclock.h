@@ -3,10 +3,11 @@
  * and of a thread's usage record, for C firmware (libtickclock.a; x86-64 so
  * far, for tests on a host).
  *
- * Every function is pure: the answer depends on the arguments alone. There is
- * no state, no allocation and no lock, so each is safe from interrupt context
- * and from several threads at once. Any argument is allowed: a function tests
- * its arguments for itself and refuses with a number what it can't answer.
+ * There is no state, no allocation and no lock. The answer depends on the
+ * arguments alone, so each function is safe from interrupt context and from
+ * several threads at once; one that is lent a record changes that record and
+ * nothing else. Any number is allowed: a function tests its arguments for
+ * itself and refuses with a number what it can't answer.
  *
  * Each calculation below, a leaf, has several functions that take the same
  * arguments:
@@ -49,6 +50,7 @@
 #ifndef TICKCLOCK_H
 #define TICKCLOCK_H
 
+#include <stdbool.h>
 #include <stdint.h>
 
 #ifdef __cplusplus
@@ -331,6 +333,40 @@ uint64_t usage_accumulate_total_cycles(uint32_t track_usage,
 uint32_t usage_accumulate_num_windows(uint32_t track_usage,
                                       uint64_t total_cycles,
                                       uint32_t num_windows, uint32_t cycles);
+
+/*
+ * ---- A thread's usage, changed in place ----
+ *
+ * The same changes on a record that the caller keeps and lends for the call.
+ * A pointer is to a record, not NULL, that nothing else uses during the call.
+ * track_usage is a bool, and holds 0 or 1.
+ */
+struct thread_usage {
+    bool track_usage;
+    uint64_t total_cycles;
+    uint32_t num_windows;
+};
+
+/* A fresh record: untracked with zeros. */
+#define THREAD_USAGE_IDLE { false, 0, 0 }
+
+/*
+ * Each answers TICKCLOCK_OK and changes the record as above, or answers the
+ * number and leaves the record as it was:
+ *
+ *   usage_enable      sets tracking and opens a window, unless it was set;
+ *                     TICKCLOCK_EOVERFLOW: untracked and num_windows is
+ *                     2^32 - 1
+ *   usage_disable     clears tracking; never refused
+ *   usage_accumulate  adds cycles to total_cycles; TICKCLOCK_EOVERFLOW: the
+ *                     sum is above 2^64 - 1
+ */
+int32_t usage_enable(struct thread_usage *thread);
+int32_t usage_disable(struct thread_usage *thread);
+int32_t usage_accumulate(struct thread_usage *thread, uint32_t cycles);
+
+/* Whether the record's thread is tracked. */
+bool usage_is_tracked(const struct thread_usage *thread);
 
 /*
  * usage_average_cycles: the cycles of a window on average.

@@ -24,6 +24,10 @@ uint64_t (*total_after)(uint32_t, uint64_t, uint32_t, uint32_t) =
 
 uint32_t (*windows_of_idle)(void) = usage_new_idle_num_windows;
 
+int32_t (*add_in_place)(struct thread_usage *, uint32_t) = usage_accumulate;
+
+bool (*looked_at)(const struct thread_usage *) = usage_is_tracked;
+
 }
 
 int main()

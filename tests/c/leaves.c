@@ -10,6 +10,7 @@
 #include "tickclock.h"
 
 #include <inttypes.h>
+#include <stddef.h>
 #include <stdio.h>
 
 static unsigned long checks;
@@ -419,7 +420,7 @@ static void systick_announce_decide(void)
     SYSTICK_ANNOUNCE_DECIDE((10, 3, 0, 4), OK, 1, 10, 7);
 }
 
-static void usage_enable(void)
+static void usage_enable_rows(void)
 {
     USAGE_ENABLE((0, 5, MAX32), TOO_BIG, 0, 0, 0);
     USAGE_ENABLE((0, MAX64, MAX32), TOO_BIG, 0, 0, 0);
@@ -437,7 +438,7 @@ static void usage_enable(void)
     USAGE_ENABLE((0x80000000u, 5, MAX32), OK, 1, 5, MAX32);
 }
 
-static void usage_disable(void)
+static void usage_disable_rows(void)
 {
     USAGE_DISABLE((0, 0, 0), OK, 0, 0, 0);
     USAGE_DISABLE((0, 5, 7), OK, 0, 5, 7);
@@ -450,7 +451,7 @@ static void usage_disable(void)
     USAGE_DISABLE((0x80000000u, 5, 7), OK, 0, 5, 7);
 }
 
-static void usage_accumulate(void)
+static void usage_accumulate_rows(void)
 {
     USAGE_ACCUMULATE((0, MAX64, MAX32, 1), TOO_BIG, 0, 0, 0);
     USAGE_ACCUMULATE((1, MAX64, 7, MAX32), TOO_BIG, 0, 0, 0);
@@ -495,7 +496,7 @@ static void usage_elapsed_cycles(void)
     USAGE_ELAPSED_CYCLES((0, 0x80000000u), OK, 0x80000000u);
 }
 
-static void usage_is_tracked(void)
+static void usage_is_tracked_rows(void)
 {
     USAGE_IS_TRACKED((0, 0, 0), OK, 0);
     USAGE_IS_TRACKED((0, MAX64, MAX32), OK, 0);
@@ -543,6 +544,60 @@ static void usage_decides(void)
     USAGE_STOP_DECIDE((MAX32), OK, 1);
 }
 
+/*
+ * One row for each case of a lent record: the call, with `lent` the record
+ * handed over, then the number and every field afterwards.
+ */
+#define USAGE_LENT(track, total, windows, call, number, track_then, \
+                   total_then, windows_then) \
+    do { \
+        struct thread_usage lent = { track, total, windows }; \
+        CHECK_NUMBER(call, number); \
+        CHECK(lent.track_usage, track_then); \
+        CHECK(lent.total_cycles, total_then); \
+        CHECK(lent.num_windows, windows_then); \
+        CHECK(usage_is_tracked(&lent), track_then); \
+    } while (0)
+
+static void usage_lent(void)
+{
+    struct thread_usage idle = THREAD_USAGE_IDLE;
+
+    /* Laid out as the library has it. */
+    CHECK(offsetof(struct thread_usage, track_usage), 0);
+    CHECK(offsetof(struct thread_usage, total_cycles), 8);
+    CHECK(offsetof(struct thread_usage, num_windows), 16);
+    CHECK(sizeof(struct thread_usage), 24);
+    CHECK(sizeof idle.track_usage, 1);
+
+    CHECK(idle.track_usage, 0);
+    CHECK(idle.total_cycles, 0);
+    CHECK(idle.num_windows, 0);
+
+    USAGE_LENT(false, 0, 0, usage_enable(&lent), OK, 1, 0, 1);
+    USAGE_LENT(false, MAX64, 7, usage_enable(&lent), OK, 1, MAX64, 8);
+    USAGE_LENT(true, 5, 7, usage_enable(&lent), OK, 1, 5, 7);
+    USAGE_LENT(false, 5, MAX32 - 1, usage_enable(&lent), OK, 1, 5, MAX32);
+    USAGE_LENT(true, 5, MAX32, usage_enable(&lent), OK, 1, 5, MAX32);
+    /* Refused: the record is as it was. */
+    USAGE_LENT(false, 5, MAX32, usage_enable(&lent), TOO_BIG, 0, 5, MAX32);
+
+    USAGE_LENT(true, 5, 7, usage_disable(&lent), OK, 0, 5, 7);
+    USAGE_LENT(false, 5, 7, usage_disable(&lent), OK, 0, 5, 7);
+    USAGE_LENT(true, MAX64, MAX32, usage_disable(&lent), OK, 0, MAX64, MAX32);
+
+    USAGE_LENT(true, 5, 7, usage_accumulate(&lent, 3), OK, 1, 8, 7);
+    USAGE_LENT(false, 5, 7, usage_accumulate(&lent, 3), OK, 0, 8, 7);
+    USAGE_LENT(true, 0, 0, usage_accumulate(&lent, MAX32), OK, 1, MAX32, 0);
+    USAGE_LENT(true, MAX64, 1, usage_accumulate(&lent, 0), OK, 1, MAX64, 1);
+    USAGE_LENT(true, MAX64 - MAX32, 1, usage_accumulate(&lent, MAX32), OK, 1,
+               MAX64, 1);
+    USAGE_LENT(true, MAX64, 1, usage_accumulate(&lent, 1), TOO_BIG, 1, MAX64,
+               1);
+    USAGE_LENT(false, MAX64 - MAX32 + 1, 1, usage_accumulate(&lent, MAX32),
+               TOO_BIG, 0, MAX64 - MAX32 + 1, 1);
+}
+
 int main(void)
 {
     constants();
@@ -554,12 +609,13 @@ int main(void)
     systick_elapsed_decide();
     counter_value();
     systick_announce_decide();
-    usage_enable();
-    usage_disable();
-    usage_accumulate();
+    usage_enable_rows();
+    usage_disable_rows();
+    usage_accumulate_rows();
     usage_average_cycles();
     usage_elapsed_cycles();
-    usage_is_tracked();
+    usage_is_tracked_rows();
+    usage_lent();
     usage_new_idle();
     usage_decides();
     printf("c: %lu checks, %lu failed\n", checks, failed);

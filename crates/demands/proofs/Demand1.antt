@@ -2,27 +2,29 @@
 use Prim.Native.Nat.{ℕ, _+_, _≤_, _<_}
 use mathlib.Core.Path.{_≡_, refl, sym, ap, _∙_, subst}
 use mathlib.Core.Bool.{Bool, true, false, not, _&&_, _||_}
-use mathlib.Core.List.{[], _∷_}
+use mathlib.Core.List.{List, [], _∷_}
 use mathlib.Core.Logic.{inl, inr}
 use native.Mathlib.Omega.{arith}
 use lib.ListN.{length}
 use lib.Dec.{eqb}
 use borrow.Author.Tests.{lt-leb, le-ltb, eq-eqb, eqb-true, ltb-false}
 use Rattle.error.proofs.Tests.{clash}
-use Rattle.error.specs.InOrder.{FirstIs, NoneHolds}
+use Rattle.error.specs.InOrder.{Row, FirstIs, NoneHolds}
 use Rattle.error.specs.Numbers.{max32, max64}
 use Rattle.clock.specs.declared.Gaps.{Gaps}
 use Rattle.clock.specs.declared.Timer.{Timer}
 use Rattle.clock.specs.declared.Announced.{Announced}
 use Rattle.clock.specs.declared.Announced.the-variants as N
 use Rattle.clock.specs.Announce.{announceOf}
+use Rattle.counter.specs.Entries.{goodPeriod, inRange}
+use Rattle.clock.specs.Timer.{wellFormed}
 use Rattle.clock.specs.Run as clock
 use Rattle.clock.specs.Holds.{GoodSetup}
 use Rattle.clock.proofs.Runs as clock-runs
 use Rattle.ledger.specs.declared.Books.{Books}
 use Rattle.ledger.specs.declared.Ledger.{Ledger}
 use Rattle.ledger.specs.declared.Operation.the-variants as O
-use Rattle.ledger.specs.Operate.{unrecorded, concerned, recordOf}
+use Rattle.ledger.specs.Operate.{unrecorded, past, busy, concerned, recordOf}
 use Rattle.ledger.specs.Laws.{rises, full}
 use Rattle.ledger.specs.Run as ledger
 use Rattle.ledger.specs.Holds.{Marked}
@@ -30,17 +32,21 @@ use Rattle.ledger.proofs.Agreeing as ledger-runs
 use Rattle.ledger.proofs.Fitting.{sums-fit}
 use Rattle.trace.specs.declared.Record.{Record}
 use Rattle.trace.specs.declared.Record.the-variants as K
+use Rattle.trace.specs.declared.Decoded.{Decoded}
 use Rattle.trace.specs.declared.Decoded.the-variants as D
+use Rattle.trace.proofs.Bytes.{decodes}
 use Rattle.machine.specs.declared.Machine.{Machine}
+use Rattle.machine.specs.declared.Reason.{Reason}
 use Rattle.machine.specs.declared.Reason.the-variants as Why
 use Rattle.machine.specs.declared.Outcome.the-variants as Told
 use Rattle.machine.specs.Task.{taskOf, askedBy}
-use Rattle.machine.specs.Table.{malformed, table, refusalOf}
+use Rattle.machine.specs.Table.{malformed, crowded, table, refusalOf}
 use Rattle.machine.specs.Says.{outcomeSays}
 use Rattle.machine.specs.Step.{coreOf, stepOf}
-use Rattle.machine.specs.Laws.{Operates, fullRow, announceRows, lastRows, recordRows, everyRow}
+use Rattle.machine.specs.Laws.{Operates, fullRow, announceRows, lastRows, recordRows, everyRow, Exactly}
 use Rattle.machine.proofs.Keeping.{every-refusal, passed}
 use Rattle.machine.proofs.Stepping as stepping
+use Rattle.demands.specs.Rows.{malformedRow, rowsOf}
 use Rattle.demands.specs.Trace.{Watched, wholeOf, timeC, FairSample, watchAll, setUp}
 use Rattle.demands.specs.Demand1.{RowNumbers, FromSetup, NoSumRefused, Demand1}
 use Rattle.demands.proofs.Counting.{cycles-are}
@@ -61,7 +67,26 @@ row-numbers = record {
   cycles-above = record { number-is = refl; zeros = refl };
   not-announced = λ leafs. record { number-is = refl; zeros = refl };
   wont-fit = record { number-is = refl; zeros = refl };
+  accepted-ok = λ v. refl;
 }
+
+-- the table that the machine tests is the one that is written out
+pub written : (m : Machine) (d : Decoded) → everyRow m d ≡ rowsOf m d
+unfolding malformed wellFormed inRange goodPeriod unrecorded recordRows lastRows taskOf askedBy past busy crowded
+written m (D.Accepted (K.Run p)) = refl
+written m (D.Accepted (K.Sample g)) = refl
+written m (D.Accepted K.Announce) = refl
+written m (D.Accepted (K.Start i g)) = refl
+written m (D.Accepted (K.Switch i g)) = refl
+written m (D.Accepted (K.Stop g)) = refl
+written m (D.Accepted (K.Enable i g)) = refl
+written m (D.Accepted (K.Disable i g)) = refl
+written m (D.Accepted (K.Report i)) = refl
+written m (D.Accepted (K.Setup s)) = refl
+written m (D.Refused why) = refl
+
+pub exactly : (m : Machine) (d : Decoded) → Exactly stepOf (rowsOf m d) m d
+exactly m d = subst (λ (rows : List (Row Reason)). Exactly stepOf rows m d) (written m d) (every-refusal m d .0)
 
 -- a mark that is an onlooker's has a record
 recorded : (slots : ℕ) (b : Books) (stretch : ledger.Open) → Marked slots b stretch → unrecorded b slots ≡ false
@@ -81,6 +106,10 @@ module _ {slots period tick : ℕ} (some : 0 < slots) (good : GoodSetup period t
       let formed = clock-runs.every-run period tick good (same .events) .always .formed in
       rw (table-size w same, same .ready, same .timer, formed, same .entered, recorded slots (ledger.after (same .entries) (ledger.begin slots) .ledger .books) (ledger.after (same .entries) (ledger.begin slots) .threads .stretch) books) refl
 
+  whole-row : malformedRow (w .machine) .0 ≡ false
+  unfolding malformed wellFormed inRange goodPeriod unrecorded
+  whole-row = whole
+
   fits : w .machine .timer .counter .cycles .0 ≤ max64
   fits = rw (same .timer) (clock-runs.every-run period tick good (same .events) .always .fits)
 
@@ -92,7 +121,7 @@ module _ {slots period tick : ℕ} (some : 0 < slots) (good : GoodSetup period t
       (whole, (refl, (rw (same .ready) refl, (rw (same .ready) refl, (refl, (refl, (refl, (le-ltb max64 (w .machine .timer .counter .cycles .0 + 0) (let h = fits in omega arith), rw (a .1) tt))))))))
 
   from-setup : FromSetup stepOf period w
-  from-setup = record { ready = same .ready; whole = whole; announces = every-refusal (w .machine) (D.Accepted K.Announce) .0 .accepted .1 none-holds }
+  from-setup = record { ready = same .ready; whole = whole-row; announces = every-refusal (w .machine) (D.Accepted K.Announce) .0 .accepted .1 none-holds }
 
 -- only the first of two tests can be a sum's, and it is not
 second-of : (a b : Bool) → a ≡ false → a || b ≡ true → b ≡ true
@@ -155,7 +184,9 @@ module _ {slots period tick : ℕ} (some : 0 < slots) (good : GoodSetup period t
 
 pub demand1 : Demand1 stepOf
 demand1 = record {
-  refusals = every-refusal;
+  decodes = decodes;
+  exactly = exactly;
+  kept = λ m d. every-refusal m d .1;
   numbers = row-numbers;
   from-setup = λ slots period tick some good ds.
       let w = watchAll stepOf ds (setUp stepOf slots period tick) in (

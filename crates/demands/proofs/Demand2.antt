@@ -1,19 +1,21 @@
 -- Demand 2, gathered.
 use mathlib.Core.Path.{refl}
 use Rattle.usage.specs.Leaves.{averageCycles}
+use Rattle.ledger.specs.Stamp.{stampOf}
 use Rattle.ledger.proofs.Operated.{every-operation}
 use Rattle.ledger.proofs.Refusing as ledger
 use Rattle.machine.proofs.Answering.{every-answer}
-use Rattle.machine.proofs.Keeping.{every-refusal}
+use Rattle.machine.specs.Step.{stepOf}
 use Rattle.demands.specs.Demand2.{Demand2}
 use Rattle.demands.proofs.Leaves.{elapsed-cycles-exact, cycles-to-ticks-exact, ticks-to-cycles-exact, max-ticks-exact, elapsed-decide-exact, announce-decide-exact, enable-exact, disable-exact, accumulate-exact, round-trip}
 use Rattle.demands.proofs.Refusals.{entry-refusals}
 use Rattle.demands.proofs.UpstreamTimer.{timer-clauses, timer-lemmas}
 use Rattle.demands.proofs.UpstreamThread.{thread-clauses, thread-lemmas}
 use Rattle.demands.proofs.Numbers.{numbers}
+use Rattle.demands.proofs.Demand1.{exactly}
 
-pub demand2 : Demand2
-unfolding averageCycles
+pub demand2 : Demand2 stepOf
+unfolding averageCycles stampOf
 demand2 = record {
   timer-clauses = timer-clauses;
   timer-lemmas = timer-lemmas;
@@ -29,12 +31,14 @@ demand2 = record {
   disable = disable-exact;
   accumulate = accumulate-exact;
   average = λ total windows. refl;
+  stamp = λ reading. refl;
   stamps-apart = λ now then. refl;
   entry-refusals = entry-refusals;
   operations = every-operation;
   operation-refusals = ledger.every-refusal;
+  entry-of-one-record = ledger.every-entry;
   records = every-answer;
-  record-refusals = every-refusal;
+  record-refusals = exactly;
   round-trip = round-trip;
   numbers = numbers;
 }

@@ -15,13 +15,14 @@ use Rattle.trace.specs.declared.Decoded.the-variants as D
 use Rattle.machine.specs.declared.Values.{Values}
 use Rattle.machine.specs.declared.Outcome.the-variants as Told
 use Rattle.machine.specs.Step.{stepOf}
-use Rattle.machine.specs.Laws as laws
-use Rattle.machine.specs.Laws.{answerTo, leftBy}
+use Rattle.machine.specs.Answers as answers
+use Rattle.machine.specs.Answers.{answerTo, leftBy}
 use Rattle.machine.proofs.Answering.{announcement-is, every-answer}
 use Rattle.machine.proofs.Stepping.{sample-accepted, touches-accepted}
 use Rattle.demands.specs.Trace.{Watched, timeC, FairSample, watchAll, setUp}
 use Rattle.demands.specs.Demand3.{LargestMultiple, Announces, Always, Fairly, Demand3}
-use Rattle.demands.proofs.Watching.{Same, announces, all-same, begin-same}
+use Rattle.demands.proofs.Counting.{cycles-are}
+use Rattle.demands.proofs.Watching.{Same, announces, same-tick, all-same, begin-same}
 use Rattle.demands.proofs.Following.{True, reads-true, all-true, begin-true}
 
 module _ {slots period tick : ℕ} (some : 0 < slots) (good : GoodSetup period tick) (w : Watched) (same : Same slots period tick w) where
@@ -32,12 +33,12 @@ module _ {slots period tick : ℕ} (some : 0 < slots) (good : GoodSetup period t
   timer = w .machine .timer
 
   -- what the clock's run tells of an announcement here
-  told : Tells period tick (laws.announces (w .machine) .«new_announced_cycles» .0) (laws.announces (w .machine) .«new_cycle_count» .0) (timer .clock .last .0) (world .seen)
+  told : Tells period tick (answers.announces (w .machine) .«new_announced_cycles» .0) (answers.announces (w .machine) .«new_cycle_count» .0) (timer .clock .last .0) (world .seen)
   unfolding clock.step
   told =
       let a = announces some good w same in
       let run = clock-runs.every-run period tick good (same .events) in
-      let there : announceOf (world .timer) ≡ N.Accepted (announcementFrom timer (laws.announces (w .machine))) =
+      let there : announceOf (world .timer) ≡ N.Accepted (announcementFrom timer (answers.announces (w .machine))) =
       ap announceOf (sym (same .timer)) ∙ (a .1 ∙ ap N.Accepted (announcement-is timer (a .0) (a .1))) in
       let last : timer .clock .last .0 ≡ world .read = ap (λ (t : Timer). t .clock .last .0) (same .timer) ∙ run .always .last in
       rw last (rw there at (run .announcements))
@@ -52,17 +53,21 @@ module _ {slots period tick : ℕ} (some : 0 < slots) (good : GoodSetup period t
   unfolding answerTo leftBy
   announcement answered e =
       let law = every-answer (w .machine) K.Announce answered e in
-      let same-tick : timer .clock .tick ≡ tick = ap (λ (t : Timer). t .clock .tick) (same .timer) ∙ clock-runs.every-run period tick good (same .events) .always .same-tick in
       rw (law .0, law .1)
       (record {
         largest-multiple = multiple-of told;
         counts = told .whole;
-        ticks = ap (λ (n : ℕ). timer .clock .announced .0 + laws.announces (w .machine) .dticks .0 * n) (sym same-tick);
+        ticks = ap (λ (n : ℕ). timer .clock .announced .0 + answers.announces (w .machine) .dticks .0 * n) (sym (same-tick some good w same));
         total = refl;
       })
 
   always : Always stepOf period tick w
-  always = record { announcement = announcement; rise = same .rise }
+  always = record {
+    announcement = announcement;
+    cycles = ap (λ (t : Timer). t .counter .cycles .0) (same .timer) ∙ cycles-are period (w .ran) (w .atC) world (same .tracks);
+    announced = same .told;
+    rise = same .rise;
+  }
 
 -- and in a fair run
 module _ {slots period tick : ℕ} (some : 0 < slots) (good : GoodSetup period tick) (w : Watched) (held : True slots period tick w) where

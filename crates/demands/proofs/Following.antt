@@ -1,5 +1,5 @@
 -- In a fair run the onlooker of the threads has just what the machine's entries tell.
-use Prim.Native.Nat.{ℕ, _+_, _<_}
+use Prim.Native.Nat.{ℕ, _+_, _<_, _*_}
 use mathlib.Core.Path.{_≡_, refl, sym, ap, _∙_, subst}
 use mathlib.Core.Bool.{true}
 use mathlib.Core.List.{List, [], _∷_, _++_, append-nil}
@@ -38,9 +38,9 @@ use Rattle.machine.specs.Laws.{Operates}
 use Rattle.machine.specs.Step.{coreOf, stepOf}
 use Rattle.machine.proofs.Stepping as stepping
 use Rattle.machine.proofs.Stepping.{Touches}
-use Rattle.demands.specs.Trace.{Does, nothing, runs, samples, operates, doesOf, sampleOnly, afterTouch, happened, Watched, wholeOf, timeC, seen, Fair, FairSample, watch, watchAll, setUp, FairTrace}
+use Rattle.demands.specs.Trace.{Does, nothing, runs, tell, samples, operates, doesOf, sampleOnly, afterTouch, happened, Watched, wholeOf, timeC, seen, Fair, FairSample, watch, watchAll, setUp, FairTrace}
 use Rattle.demands.proofs.Counting.{time-is, fair-sample}
-use Rattle.demands.proofs.Moving.{Ending, taken, summed, left, timeOf, on-and-on, fair-on, entries-on, later, one-later, ending, idle, operation, moved, answeredOf, told-accepted, told-refused, adds, sum-kept, refused-left}
+use Rattle.demands.proofs.Moving.{Ending, taken, summed, left, timeOf, on-and-on, fair-on, entries-on, later, one-later, ending, idle, operation, moved, answeredOf, toldOf, announced-after, sum-announced, nothing-told, told-accepted, told-refused, adds, sum-kept, refused-left}
 use Rattle.demands.proofs.Watching.{Same, only-sample, announces, has-slots, at, touched-same, left-same, begin-same}
 
 -- in a fair run, besides: our onlooker of the threads has just what the machine's entries tell
@@ -48,7 +48,7 @@ pub record True (slots period tick : ℕ) (w : Watched) : Type 0 where
   pub same : Same slots period tick w
   pub fair : clock.Fair (same .events) (clock.start period tick)
   pub threads : w .threads ≡ ledger.after (same .entries) (ledger.begin slots) .threads
-  pub printed : w .printed ≡ ledger.after (same .entries) (ledger.begin slots) .answered
+  pub printed : w .since ≡ ledger.after (same .entries) (ledger.begin slots) .answered
   pub timely : Timely 0 (same .entries) (w .ran)
 
 -- what a record's entry tells the ledger's onlooker, accepted or refused
@@ -95,9 +95,9 @@ module _ (w : Watched) (x : clock.World) (together : w .machine .timer ≡ x .ti
     on-time (K.Setup s) t n fair es timely = absurd (stepping.no-setup m s ready t)
 
     -- the ledger's onlooker is told of an accepted operation what ours is told
-    module _ (lw : ledger.World) (l : lw .ledger ≡ m .ledger) (th : lw .threads ≡ w .threads) (pr : lw .answered ≡ w .printed) (next : Machine) where
+    module _ (lw : ledger.World) (l : lw .ledger ≡ m .ledger) (th : lw .threads ≡ w .threads) (pr : lw .answered ≡ w .since) (next : Machine) where
       abbrev Tells : Does → List ledger.Event → Type 0
-      Tells d es = (ledger.after es lw .threads ≡ seen d next w .threads) × (ledger.after es lw .answered ≡ seen d next w .printed)
+      Tells d es = (ledger.after es lw .threads ≡ seen d next w .threads) × (ledger.after es lw .answered ≡ seen d next w .since)
 
       told-operation : (r : Record) (g : Gaps) (o : Operates r g) → Touches m r → FairSample period (w .ran) (w .atC) g → (values : Values) → stepOf m (D.Accepted r) .outcome ≡ Told.Accepted values → Tells (operates (o .0) g (values .x)) (record { operation = o .0; time = sampleValue (m .timer) g .reading .0 } ∷ [])
       unfolding seen ledger.after
@@ -188,6 +188,7 @@ module _ {slots period tick : ℕ} (some : 0 < slots) (good : GoodSetup period t
 fair-sampled : (period ran last : ℕ) (d : Does) → Fair period ran last (sampleOnly d) → Fair period ran last d
 fair-sampled period ran last nothing fair = fair
 fair-sampled period ran last (runs n) fair = fair
+fair-sampled period ran last (tell n) fair = fair
 fair-sampled period ran last (samples g) fair = fair
 fair-sampled period ran last (operates op g x) fair = fair
 
@@ -205,13 +206,13 @@ module _ {slots period tick : ℕ} (some : 0 < slots) (good : GoodSetup period t
     abbrev entries-now : List ledger.Event
     entries-now = entriesBy w so-far (held .same .timer) (held .same .ready) (announces some good w (held .same)) r t
 
-    touched-true : (d : Does) (er : seen d after w .ran ≡ seen (doesOf r n) after w .ran) (ec : seen d after w .atC ≡ seen (doesOf r n) after w .atC) (total : after .ledger .books .total .0 ≡ w .machine .ledger .books .total .0 + answeredOf d) → (ledger.after entries-now entered-so-far .threads ≡ seen d after w .threads) × (ledger.after entries-now entered-so-far .answered ≡ seen d after w .printed) → True slots period tick (seen d after w)
+    touched-true : (d : Does) (er : seen d after w .ran ≡ seen (doesOf r n) after w .ran) (ec : seen d after w .atC ≡ seen (doesOf r n) after w .atC) (total : after .ledger .books .total .0 ≡ w .machine .ledger .books .total .0 + answeredOf d) → (announced : after .timer .clock .announced .0 ≡ w .machine .timer .clock .announced .0 + toldOf d * w .machine .timer .clock .tick) → (ledger.after entries-now entered-so-far .threads ≡ seen d after w .threads) × (ledger.after entries-now entered-so-far .answered ≡ seen d after w .since) → True slots period tick (seen d after w)
     unfolding touched-same entriesBy at
-    touched-true d er ec total told =
+    touched-true d er ec total announced told =
         let same = held .same in
         let more = entries-on (same .entries) entries-now (ledger.begin slots) in
         record {
-          same = touched-same some good w r same t d n er ec total;
+          same = touched-same some good w r same t d n er ec total announced;
           fair = fair-on (same .events) (timeOf r) (clock.start period tick) (held .fair) (fair-time some good w held r t n fair);
           threads = sym (told .0) ∙ ap (λ (y : ledger.World). y .threads) (sym more);
           printed = sym (told .1) ∙ ap (λ (y : ledger.World). y .answered) (sym more);
@@ -231,14 +232,14 @@ module _ {slots period tick : ℕ} (some : 0 < slots) (good : GoodSetup period t
           let same = held .same in
           let now = rw e at fair in
           rw e
-          (touched-true w r held t (values .x) now (doesOf r (values .x)) refl refl (adds (w .machine) (same .ready) (has-slots some good w same) values r t e)
+          (touched-true w r held t (values .x) now (doesOf r (values .x)) refl refl (adds (w .machine) (same .ready) (has-slots some good w same) values r t e) (announced-after (w .machine) values (same .ready) r t e)
           (tells w (clock.after (same .events) (clock.start period tick)) (same .timer) (same .ready) (announces some good w same) period (reads-true some good w held) (ledger.after (same .entries) (ledger.begin slots)) (sym (same .entered)) (sym (held .threads)) (sym (held .printed)) (stepOf (w .machine) (D.Accepted r) .machine) r t values now e))
       by-ending (summed e t) =
           let same = held .same in
           let now = fair-sampled period (w .ran) (w .atC) (doesOf r 0) (rw e at fair) in
           let times = only-sample (doesOf r 0) (stepOf (w .machine) (D.Accepted r) .machine) w in
           rw e
-          (touched-true w r held t 0 now (sampleOnly (doesOf r 0)) (times .0) (times .1) (ap (λ (l : Ledger). l .books .total .0) (sum-kept (w .machine) r e) ∙ (sym (add-zero _) ∙ ap (λ (n : ℕ). w .machine .ledger .books .total .0 + n) (sym (times .2))))
+          (touched-true w r held t 0 now (sampleOnly (doesOf r 0)) (times .0) (times .1) (ap (λ (l : Ledger). l .books .total .0) (sum-kept (w .machine) r e) ∙ (sym (add-zero _) ∙ ap (λ (n : ℕ). w .machine .ledger .books .total .0 + n) (sym (times .2)))) (rw (nothing-told r) (sum-announced (w .machine) r e))
           (keeps w (clock.after (same .events) (clock.start period tick)) (same .timer) (same .ready) (announces some good w same) period (reads-true some good w held) (ledger.after (same .entries) (ledger.begin slots)) (sym (same .entered)) (sym (held .threads)) (sym (held .printed)) (stepOf (w .machine) (D.Accepted r) .machine) r t e))
       by-ending (left why e before stays) = rw (e, before) (left-true w _ stays held)
   watch-true (D.Refused why) w fair held = left-true w _ (refused-left (w .machine) why) held

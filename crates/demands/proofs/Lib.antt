@@ -5,6 +5,7 @@ pub mod Numbers
 pub mod UpstreamTimer
 pub mod UpstreamThread
 pub mod Outcomes
+pub mod Lent
 pub mod Counting
 pub mod Moving
 pub mod Watching

@@ -1,11 +1,11 @@
 -- What one record does to the machine, told as the clock's and the ledger's own onlookers see it.
-use Prim.Native.Nat.{ℕ, _+_, _≤_, _<_}
+use Prim.Native.Nat.{ℕ, _+_, _*_, _≤_, _<_}
 use mathlib.Core.Path.{_≡_, refl, sym, ap, _∙_, subst}
 use mathlib.Core.Bool.{Bool, true, false}
 use mathlib.Core.List.{List, [], _∷_, _++_}
 use mathlib.Core.Logic.{inl, inr}
 use native.Mathlib.Omega.{arith}
-use native.Mathlib.Nat.{add-zero}
+use native.Mathlib.Nat.{add-zero, zero-mul}
 use lib.ListN.{length}
 use Rattle.error.proofs.Ordered.{by-outcome}
 use Rattle.error.proofs.Tests.{clash}
@@ -44,13 +44,14 @@ use Rattle.machine.specs.declared.Outcome.the-variants as Told
 use Rattle.machine.specs.Task.{taskOf}
 use Rattle.machine.specs.Accepts.{Samples}
 use Rattle.machine.specs.Table.{malformed}
-use Rattle.machine.specs.Laws.{Operates, operationTells, leftBy, recordRows}
+use Rattle.machine.specs.Laws.{Operates, operationTells, recordRows}
+use Rattle.machine.specs.Answers.{answerTo, leftBy}
 use Rattle.machine.specs.Step.{coreOf, stepOf}
 use Rattle.machine.proofs.Keeping.{every-refusal, operated-timer, stays-ready}
 use Rattle.machine.proofs.Answering.{every-answer}
 use Rattle.machine.proofs.Stepping as stepping
 use Rattle.machine.proofs.Stepping.{Touches}
-use Rattle.demands.specs.Trace.{Does, nothing, runs, samples, operates, doesOf, afterTouch, Watched, wholeOf, timeC, seen, Fair}
+use Rattle.demands.specs.Trace.{Does, nothing, runs, tell, samples, operates, doesOf, sampleOnly, afterTouch, Watched, wholeOf, timeC, seen, Fair}
 use Rattle.demands.proofs.Counting.{Tracks, tracks-run, tracks-announce, tracks-sample}
 
 -- what a record lets happen to the clock's own onlooker
@@ -197,6 +198,7 @@ module _ (m : Machine) (x : clock.World) (together : m .timer ≡ x .timer) wher
 unfoldable pub answeredOf : Does → ℕ
 answeredOf nothing = 0
 answeredOf (runs n) = 0
+answeredOf (tell n) = 0
 answeredOf (samples g) = 0
 answeredOf (operates op g x) = x
 
@@ -240,6 +242,61 @@ sum-kept m r e =
     let kept = every-refusal m (D.Accepted r) .1 in
     let op = kept .only-operations e in
     ap (λ (n : Machine). n .ledger) (kept .sampled (op .0) (op .1) (op .2) (op .3) e .0)
+
+-- the ticks answered, and what they add to announced
+unfoldable pub toldOf : Does → ℕ
+toldOf nothing = 0
+toldOf (runs n) = 0
+toldOf (tell n) = n
+toldOf (samples g) = 0
+toldOf (operates op g x) = 0
+
+none-told : (a tick : ℕ) → a ≡ a + 0 * tick
+none-told a tick = omega (arith, zero-mul tick)
+
+module _ (m : Machine) (values : Values) where
+  abbrev Announced : Record → Type 0
+  Announced r = stepOf m (D.Accepted r) .machine .timer .clock .announced .0 ≡ m .timer .clock .announced .0 + toldOf (doesOf r (values .x)) * m .timer .clock .tick
+
+  same-announced : (r : Record) → leftBy m r .timer .clock .announced .0 ≡ m .timer .clock .announced .0 → stepOf m (D.Accepted r) .outcome ≡ Told.Accepted values → stepOf m (D.Accepted r) .machine .timer .clock .announced .0 ≡ m .timer .clock .announced .0 + 0 * m .timer .clock .tick
+  same-announced r stays e = ap (λ (n : Machine). n .timer .clock .announced .0) (every-answer m r values e .1) ∙ (stays ∙ none-told _ (m .timer .clock .tick))
+
+  pub announced-after : m .ready ≡ true → (r : Record) → Touches m r → stepOf m (D.Accepted r) .outcome ≡ Told.Accepted values → Announced r
+  unfolding toldOf leftBy answerTo
+  announced-after ready (K.Run p) t e = same-announced (K.Run p) refl e
+  announced-after ready (K.Sample g) t e = same-announced (K.Sample g) refl e
+  announced-after ready K.Announce t e =
+      let law = every-answer m K.Announce values e in
+      ap (λ (n : Machine). n .timer .clock .announced .0) (law .1) ∙ ap (λ (v : Values). m .timer .clock .announced .0 + v .x * m .timer .clock .tick) (sym (law .0))
+  announced-after ready (K.Start i g) t e = same-announced (K.Start i g) refl e
+  announced-after ready (K.Switch i g) t e = same-announced (K.Switch i g) refl e
+  announced-after ready (K.Stop g) t e = same-announced (K.Stop g) refl e
+  announced-after ready (K.Enable i g) t e = same-announced (K.Enable i g) refl e
+  announced-after ready (K.Disable i g) t e = same-announced (K.Disable i g) refl e
+  announced-after ready (K.Report i) t e = same-announced (K.Report i) refl e
+  announced-after ready (K.Setup s) t e = absurd (stepping.no-setup m s ready t)
+
+-- of a sum that was refused the sample is kept, which announces nothing
+pub sum-announced : (m : Machine) (r : Record) → stepOf m (D.Accepted r) .outcome ≡ Told.Refused Why.WontFit → stepOf m (D.Accepted r) .machine .timer .clock .announced .0 ≡ m .timer .clock .announced .0 + 0 * m .timer .clock .tick
+unfolding leftBy toldOf
+sum-announced m r e =
+    let kept = every-refusal m (D.Accepted r) .1 in
+    let op = kept .only-operations e in
+    let sample = kept .sampled (op .0) (op .1) (op .2) (op .3) e in
+    ap (λ (n : Machine). n .timer .clock .announced .0) (sample .0) ∙ same-announced m _ (K.Sample (op .1)) refl (sample .1)
+
+pub nothing-told : (r : Record) → toldOf (sampleOnly (doesOf r 0)) ≡ 0
+unfolding toldOf
+nothing-told (K.Run p) = refl
+nothing-told (K.Sample g) = refl
+nothing-told K.Announce = refl
+nothing-told (K.Start i g) = refl
+nothing-told (K.Switch i g) = refl
+nothing-told (K.Stop g) = refl
+nothing-told (K.Enable i g) = refl
+nothing-told (K.Disable i g) = refl
+nothing-told (K.Report i) = refl
+nothing-told (K.Setup s) = refl
 
 -- bytes that are no record leave the machine as it was
 pub refused-left : (m : Machine) (why : Refusal) → stepOf m (D.Refused why) .machine ≡ m

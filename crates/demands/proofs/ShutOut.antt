@@ -29,8 +29,9 @@ use Rattle.machine.specs.declared.Outcome.the-variants as Told
 use Rattle.machine.specs.declared.Reason.the-variants as Why
 use Rattle.machine.specs.Task.{taskOf, askedBy, threadOf}
 use Rattle.machine.specs.Table.{malformed, crowded}
-use Rattle.machine.specs.Step.{enteredStep, announcedStep, effectOf, taskStep, decodedStep, coreStepOf, decodedThread, slotOf, stepOf}
-use Rattle.machine.specs.Laws.{recordRows, lastRows, values, answerTo, leftBy}
+use Rattle.machine.specs.Step.{enteredStep, announcedStep, effectOf, taskStep, decodedStep, coreStepOf, decodedThread, slotOf, freshMachine, stepOf}
+use Rattle.machine.specs.Laws.{recordRows, lastRows}
+use Rattle.machine.specs.Answers.{values, answerTo, leftBy}
 use Rattle.machine.specs.Shown as handed
 use Rattle.demands.specs.Trace.{afterTouch, happened, seen, watchAll, FairTrace}
 use Rattle.demands.specs.Shown.{taken, atOnce}
@@ -44,7 +45,7 @@ pub shut-out : ShutOut
 unfolding enabled accumulated averageCycles announceDecide cycle runN wraps goodPeriod inRange ranOf wellFormed sampleOf announceOf announcedBy stampOf runs charged withChange onward closeOf stopOf switchOf altered reopenOf alterOf enterOf unrecorded past busy entryOf concerned storedIn operateOf sumOf ledger.closesNow ledger.begins ledger.openAfter ledger.trackedAfter taskOf askedBy threadOf malformed crowded enteredStep announcedStep effectOf taskStep decodedStep coreStepOf decodedThread slotOf stepOf recordRows lastRows answerTo leftBy afterTouch happened seen watchAll FairTrace
 shut-out = record {
   refuser-falls = λ law.
-      let accepted = law (handed.timed (handed.counter 10 10 false 0) (handed.clock 4 0 0 0)) (D.Accepted (K.Run 0)) .0 .accepted .1 (refl, (refl, (refl, (refl, (refl, (refl, (refl, (refl, tt)))))))) in
+      let accepted = law .exactly (handed.timed (handed.counter 10 10 false 0) (handed.clock 4 0 0 0)) (D.Accepted (K.Run 0)) .accepted .1 (refl, (refl, (refl, (refl, (refl, (refl, (refl, (refl, tt)))))))) in
       let e : Told.Refused Why.BadRecord ≡ Told.Accepted (accepted .0) = accepted .1 in
       clash (cc);
   frozen-falls = λ law.
@@ -81,21 +82,27 @@ shut-out = record {
       absurd (omega arith);
   flag-gone-falls = λ law.
       let m = handed.timed (handed.counter 10 10 true max64) (handed.clock 4 0 0 4294967277) in
-      false≢true (ap (λ (n : Machine). n .timer .counter .flag) (law m (D.Accepted (K.Sample atOnce)) .1 .untouched Why.AnnounceFirst refl (λ e. clash (cc))));
+      false≢true (ap (λ (n : Machine). n .timer .counter .flag) (law .kept m (D.Accepted (K.Sample atOnce)) .untouched Why.AnnounceFirst refl (λ e. clash (cc))));
   two-stamps-falls = λ law.
       let w = law 2 10 4 (omega arith) ten (taken (K.Run 1 ∷ K.Start 0 atOnce ∷ K.Run 3 ∷ K.Switch 1 (gaps 0 0 5) ∷ K.Stop atOnce ∷ [])) .1 (omega arith) .chain (omega arith) in
       absurd (let high = w .high in omega arith);
   forgetful-falls = λ law.
       let m = handed.running 5 18446744073709551612 newIdle in
-      false≢true (ap (λ (n : Machine). n .ready) (law m (D.Accepted (K.Stop atOnce)) .1 .sampled (K.Stop atOnce) atOnce refl (_, refl) refl .0));
+      false≢true (ap (λ (n : Machine). n .ready) (law .kept m (D.Accepted (K.Stop atOnce)) .sampled (K.Stop atOnce) atOnce refl (_, refl) refl .0));
   no-elapsed-falls = λ law.
       let e : _≡_ {A = ℕ} 0 1 = law 2 10 4 (omega arith) ten (taken (K.Run 1 ∷ [])) .1 (omega arith) .shows atOnce (values 0 0) (omega arith) refl in
       clash e;
   averages-total-falls = λ law.
       let m = handed.handed true (handed.counter 10 10 false 0) (handed.clock 4 0 0 0) (handed.books 0 0 0) (handed.thread false 8 2) in
-      let e : _≡_ {A = ℕ} 8 4 = ap (λ (v : Values). v .y) (law m (K.Report 0) (values 8 8) refl .0) in
+      let e : _≡_ {A = ℕ} 8 4 = ap (λ (v : Values). v .y) (law .records m (K.Report 0) (values 8 8) refl .0) in
       absurd (omega arith);
   no-windows-falls = λ law.
-      let e : _≡_ {A = ℕ} 0 1 = ap (λ (n : Machine). recordOf (n .ledger) 0 .«num_windows») (law (handed.timed (handed.counter 10 10 false 0) (handed.clock 4 0 0 0)) (K.Enable 0 atOnce) (values 0 0) refl .1) in
+      let e : _≡_ {A = ℕ} 0 1 = ap (λ (n : Machine). recordOf (n .ledger) 0 .«num_windows») (law .records (handed.timed (handed.counter 10 10 false 0) (handed.clock 4 0 0 0)) (K.Enable 0 atOnce) (values 0 0) refl .1) in
       clash e;
+  tells-again-falls = λ law.
+      let e : _≡_ {A = ℕ} 0 8 = law 2 10 4 (omega arith) ten (taken (K.Run 10 ∷ K.Sample atOnce ∷ K.Announce ∷ K.Sample atOnce ∷ [])) .0 .announced in
+      absurd (omega arith);
+  never-samples-falls = λ law.
+      let e : _≡_ {A = ℕ} 4294967295 0 = ap (λ (n : Machine). n .timer .clock .overflow) (law .records (freshMachine 2) (K.Setup (record { period = 10; tick = 4 })) (values 0 0) refl .1) in
+      absurd (omega arith);
 }

@@ -1,10 +1,10 @@
 -- The machine and its onlooker stay together, record by record, with no premises.
-use Prim.Native.Nat.{ℕ, _+_, _<_}
+use Prim.Native.Nat.{ℕ, _+_, _*_, _<_}
 use mathlib.Core.Path.{_≡_, refl, sym, ap, _∙_, subst}
 use mathlib.Core.Bool.{Bool, true, false, cond}
 use mathlib.Core.List.{List, [], _∷_, _++_}
 use native.Mathlib.Omega.{arith}
-use native.Mathlib.Nat.{add-zero}
+use native.Mathlib.Nat.{add-zero, add-mul, zero-mul}
 use lib.ListN.{length, length-set, length-replicate}
 use lib.Dec.{eqb}
 use borrow.Author.Tests.{ne-eqb}
@@ -14,6 +14,7 @@ use Rattle.usage.specs.Record.{newIdle}
 use Rattle.counter.specs.Entries.{goodPeriod}
 use Rattle.counter.specs.Cycle.{runN, wraps}
 use Rattle.counter.proofs.Outcomes.{good-of-bounds}
+use Rattle.clock.specs.declared.Timer.{Timer}
 use Rattle.clock.specs.declared.Announcement.{Announcement}
 use Rattle.clock.specs.declared.Announced.the-variants as N
 use Rattle.clock.specs.Sample.{atC}
@@ -37,22 +38,23 @@ use Rattle.machine.specs.declared.Machine.{Machine}
 use Rattle.machine.specs.Step.{freshMachine, stepOf}
 use Rattle.machine.proofs.Stepping as stepping
 use Rattle.machine.proofs.Stepping.{Touches}
-use Rattle.demands.specs.Trace.{Does, nothing, runs, samples, operates, doesOf, sampleOnly, afterTouch, happened, Watched, seen, watch, watchAll, setUp}
+use Rattle.demands.specs.Trace.{Does, nothing, runs, tell, samples, operates, doesOf, sampleOnly, afterTouch, happened, Watched, seen, watch, watchAll, setUp}
 use Rattle.demands.proofs.Counting.{Tracks}
-use Rattle.demands.proofs.Moving.{Ending, taken, summed, left, timeOf, on-and-on, entries-on, ending, Moved, operation, moved, Follows, follows, answeredOf, adds, sum-kept, refused-left}
+use Rattle.demands.proofs.Moving.{Ending, taken, summed, left, timeOf, on-and-on, entries-on, ending, Moved, operation, moved, Follows, follows, answeredOf, adds, sum-kept, toldOf, announced-after, sum-announced, nothing-told, refused-left}
 
 -- the onlooker's sum goes up by as much
 abbrev pub Rise : Watched → Type 0
-Rise w = w .machine .ledger .books .total .0 ≡ w .begun + w .printed
+Rise w = w .machine .ledger .books .total .0 ≡ w .before + w .since
 
 pub rise-seen : (d : Does) (after : Machine) (w : Watched) → Rise w → after .ledger .books .total .0 ≡ w .machine .ledger .books .total .0 + answeredOf d → Rise (seen d after w)
 unfolding answeredOf seen
 rise-seen nothing after w rise e = omega arith
 rise-seen (runs n) after w rise e = omega arith
+rise-seen (tell n) after w rise e = omega arith
 rise-seen (samples g) after w rise e = omega arith
 rise-seen (operates op g x) after w rise e = by-test (ledger.begins (w .threads) op)
   where
-    by-test : (new : Bool) → after .ledger .books .total .0 ≡ cond new (after .ledger .books .total .0) (w .begun) + cond new 0 (w .printed + x)
+    by-test : (new : Bool) → after .ledger .books .total .0 ≡ cond new (w .before + w .since) (w .before) + cond new x (w .since + x)
     by-test true = omega arith
     by-test false = omega arith
 
@@ -61,6 +63,7 @@ pub only-sample : (d : Does) (after : Machine) (w : Watched) → (seen (sampleOn
 unfolding seen answeredOf
 only-sample nothing after w = (refl, refl, refl)
 only-sample (runs n) after w = (refl, refl, refl)
+only-sample (tell n) after w = (refl, refl, refl)
 only-sample (samples g) after w = (refl, refl, refl)
 only-sample (operates op g x) after w = (refl, refl, refl)
 
@@ -68,8 +71,21 @@ pub seen-machine : (d : Does) (after : Machine) (w : Watched) → seen d after w
 unfolding seen
 seen-machine nothing after w = refl
 seen-machine (runs n) after w = refl
+seen-machine (tell n) after w = refl
 seen-machine (samples g) after w = refl
 seen-machine (operates op g x) after w = refl
+
+-- the onlooker's ticks
+pub told-seen : (d : Does) (after : Machine) (w : Watched) → seen d after w .ticks ≡ w .ticks + toldOf d
+unfolding seen toldOf
+told-seen nothing after w = sym (add-zero _)
+told-seen (runs n) after w = sym (add-zero _)
+told-seen (tell n) after w = refl
+told-seen (samples g) after w = sym (add-zero _)
+told-seen (operates op g x) after w = sym (add-zero _)
+
+pub told-more : {now before tick-now more tick : ℕ} (ticks n : ℕ) → now ≡ before + n * tick-now → tick-now ≡ tick → before ≡ ticks * tick → more ≡ ticks + n → now ≡ more * tick
+told-more {now} {before} {tick-now} {more} {tick} ticks n e same-tick was is = e ∙ rw (same-tick, was, is) (sym (add-mul ticks n tick))
 
 -- what stays true of a run from setup, with no premises: the machine is set up, its counter and clock are those of the
 -- clock's onlooker, who counts as ours does, and its ledger is what some entries come to
@@ -81,6 +97,7 @@ pub record Same (slots period tick : ℕ) (w : Watched) : Type 0 where
   pub entries : List ledger.Event
   pub entered : w .machine .ledger ≡ ledger.after entries (ledger.begin slots) .ledger
   pub rise : Rise w
+  pub told : w .machine .timer .clock .announced .0 ≡ w .ticks * tick
 
 -- the table keeps its size
 stored-slots : (l : Ledger) (k : ℕ) (x : Entered) → length (storedIn l k x .ledger .threads) ≡ length (l .threads)
@@ -117,6 +134,9 @@ module _ {slots period tick : ℕ} (some : 0 < slots) (good : GoodSetup period t
       let a = every-run period tick good (same .events) .always .announce-accepted in
       (a .0, ap announceOf (same .timer) ∙ a .1)
 
+  pub same-tick : (w : Watched) → Same slots period tick w → w .machine .timer .clock .tick ≡ tick
+  same-tick w same = ap (λ (t : Timer). t .clock .tick) (same .timer) ∙ every-run period tick good (same .events) .always .same-tick
+
   pub has-slots : (w : Watched) → Same slots period tick w → 0 < length (w .machine .ledger .threads)
   has-slots w same = subst (λ (n : ℕ). 0 < n) (sym (table-size w same)) some
 
@@ -128,9 +148,9 @@ module _ {slots period tick : ℕ} (some : 0 < slots) (good : GoodSetup period t
     unfoldable pub at : Moved (w .machine) (clock.after (same .events) (clock.start period tick)) r
     at = moved (w .machine) (clock.after (same .events) (clock.start period tick)) (same .timer) r (same .ready) (announces w same) t
 
-    unfoldable pub touched-same : (d : Does) (n : ℕ) → seen d next w .ran ≡ seen (doesOf r n) next w .ran → seen d next w .atC ≡ seen (doesOf r n) next w .atC → next .ledger .books .total .0 ≡ w .machine .ledger .books .total .0 + answeredOf d → Same slots period tick (seen d next w)
+    unfoldable pub touched-same : (d : Does) (n : ℕ) → seen d next w .ran ≡ seen (doesOf r n) next w .ran → seen d next w .atC ≡ seen (doesOf r n) next w .atC → next .ledger .books .total .0 ≡ w .machine .ledger .books .total .0 + answeredOf d → next .timer .clock .announced .0 ≡ w .machine .timer .clock .announced .0 + toldOf d * w .machine .timer .clock .tick → Same slots period tick (seen d next w)
     unfolding Follows
-    touched-same d n er ec total =
+    touched-same d n er ec total announced =
         let x = clock.after (same .events) (clock.start period tick) in
         let step = follows (w .machine) x (same .timer) period w (same .tracks) next n r (same .ready) t in
         let world = on-and-on (same .events) (timeOf r) (clock.start period tick) in
@@ -143,22 +163,23 @@ module _ {slots period tick : ℕ} (some : 0 < slots) (good : GoodSetup period t
           entries = same .entries ++ at .entries;
           entered = ap (λ (m : Machine). m .ledger) is ∙ (at .entered (ledger.after (same .entries) (ledger.begin slots)) (sym (same .entered)) ∙ sym (ap (λ (y : ledger.World). y .ledger) (entries-on (same .entries) (at .entries) (ledger.begin slots))));
           rise = rise-seen d next w (same .rise) total;
+          told = ap (λ (m : Machine). m .timer .clock .announced .0) is ∙ told-more (w .ticks) (toldOf d) announced (same-tick w same) (same .told) (told-seen d next w);
         }
 
   -- one that left the machine as it was
   unfoldable pub left-same : (w : Watched) (machine : Machine) → machine ≡ w .machine → Same slots period tick w → Same slots period tick (seen nothing machine w)
   unfolding seen
-  left-same w machine e same = record { ready = rw e (same .ready); events = same .events; timer = rw e (same .timer); tracks = same .tracks; entries = same .entries; entered = rw e (same .entered); rise = rw e (same .rise) }
+  left-same w machine e same = record { ready = rw e (same .ready); events = same .events; timer = rw e (same .timer); tracks = same .tracks; entries = same .entries; entered = rw e (same .entered); rise = rw e (same .rise); told = rw e (same .told) }
 
   pub watch-same : (d : Decoded) (w : Watched) → Same slots period tick w → Same slots period tick (watch stepOf d w)
   unfolding happened afterTouch
   watch-same (D.Accepted r) w same = by-ending (ending (w .machine) r)
     where
       by-ending : Ending (w .machine) r → Same slots period tick (watch stepOf (D.Accepted r) w)
-      by-ending (taken values e t) = rw e (touched-same w r same t (doesOf r (values .x)) (values .x) refl refl (adds (w .machine) (same .ready) (has-slots w same) values r t e))
+      by-ending (taken values e t) = rw e (touched-same w r same t (doesOf r (values .x)) (values .x) refl refl (adds (w .machine) (same .ready) (has-slots w same) values r t e) (announced-after (w .machine) values (same .ready) r t e))
       by-ending (summed e t) =
           let times = only-sample (doesOf r 0) (stepOf (w .machine) (D.Accepted r) .machine) w in
-          rw e (touched-same w r same t (sampleOnly (doesOf r 0)) 0 (times .0) (times .1) (ap (λ (l : Ledger). l .books .total .0) (sum-kept (w .machine) r e) ∙ (sym (add-zero _) ∙ ap (λ (n : ℕ). w .machine .ledger .books .total .0 + n) (sym (times .2)))))
+          rw e (touched-same w r same t (sampleOnly (doesOf r 0)) 0 (times .0) (times .1) (ap (λ (l : Ledger). l .books .total .0) (sum-kept (w .machine) r e) ∙ (sym (add-zero _) ∙ ap (λ (n : ℕ). w .machine .ledger .books .total .0 + n) (sym (times .2)))) (rw (nothing-told r) (sum-announced (w .machine) r e)))
       by-ending (left why e before stays) = rw (e, before) (left-same w _ stays same)
   watch-same (D.Refused why) w same = left-same w _ (refused-left (w .machine) why) same
 
@@ -189,4 +210,5 @@ begin-same slots period tick good =
       entries = [];
       entered = ap (λ (m : Machine). m .ledger) e;
       rise = ap (λ (m : Machine). m .ledger .books .total .0) e;
+      told = ap (λ (m : Machine). m .timer .clock .announced .0) e ∙ sym (zero-mul tick);
     }

@@ -1,12 +1,12 @@
--- Demand 1: any machine handed in and any bytes; what is refused with which number, and what a refusal leaves.
+-- Demand 1: any machine handed in and any bytes or record; what is refused with which number, and what a refusal leaves.
 use Prim.Native.Nat.{ℕ, _<_}
 use mathlib.Core.Path.{_≡_}
 use mathlib.Core.Bool.{true, false}
 use mathlib.Core.List.{List}
-use lib.ListN.{length}
 use lib.IntN.{ℤ}
 use Rattle.error.specs.declared.Refusal.{Refusal}
 use Rattle.error.specs.Numbers.{minus, max32, numberOf}
+use Rattle.error.specs.Said.{accepted}
 use Rattle.clock.specs.declared.Gaps.{Gaps}
 use Rattle.clock.specs.Holds.{GoodSetup}
 use Rattle.ledger.specs.Operate.{recordOf}
@@ -14,16 +14,17 @@ use Rattle.trace.specs.declared.Record.{Record}
 use Rattle.trace.specs.declared.Record.the-variants as K
 use Rattle.trace.specs.declared.Decoded.{Decoded}
 use Rattle.trace.specs.declared.Decoded.the-variants as D
+use Rattle.trace.specs.Bytes.{Decodes}
 use Rattle.machine.specs.declared.Machine.{Machine}
 use Rattle.machine.specs.declared.Stepped.{Stepped}
 use Rattle.machine.specs.declared.Reason.{Reason}
 use Rattle.machine.specs.declared.Reason.the-variants as Why
 use Rattle.machine.specs.declared.Values.{Values}
 use Rattle.machine.specs.declared.Outcome.the-variants as Told
-use Rattle.machine.specs.Table.{malformed}
 use Rattle.machine.specs.Says.{outcomeSays}
-use Rattle.machine.specs.Step.{coreOf}
-use Rattle.machine.specs.Laws.{EveryRefusal, values}
+use Rattle.machine.specs.Laws.{Exactly, Kept}
+use Rattle.machine.specs.Answers.{values}
+use Rattle.demands.specs.Rows.{malformedRow, rowsOf}
 use Rattle.demands.specs.Trace.{Watched, Fair, doesOf, watchAll, setUp, FairTrace}
 
 -- a refused record says its row's number, and 0 0
@@ -43,13 +44,15 @@ pub record RowNumbers : Type 0 where
   pub cycles-above : Says Why.CyclesAbove (minus 139)
   pub not-announced : (leafs : Refusal) → Says (Why.NotAnnounced leafs) (numberOf leafs)
   pub wont-fit : Says Why.WontFit (minus 139)
+  -- an accepted record says 0, and its values
+  pub accepted-ok : (v : Values) → outcomeSays (Told.Accepted v) ≡ accepted v
 
 module _ (step : Machine → Decoded → Stepped) (period : ℕ) where
   -- after any trace from setup
   pub record FromSetup (w : Watched) : Type 0 where
     -- the machine stays set up, is never taken for malformed, and announces whenever it is asked to
     pub ready : w .machine .ready ≡ true
-    pub whole : malformed (coreOf (w .machine)) (length (w .machine .ledger .threads)) ≡ false
+    pub whole : malformedRow (w .machine) .0 ≡ false
     pub announces : (answered : Values) × (step (w .machine) (D.Accepted K.Announce) .outcome ≡ Told.Accepted answered)
 
   -- in a fair run no sum is refused: where -139 comes after the touch, a count of windows is full
@@ -61,8 +64,12 @@ module _ (step : Machine → Decoded → Stepped) (period : ℕ) where
       (i : ℕ) × (g : Gaps) × (r ≡ K.Enable i g) × (recordOf (w .machine .ledger) i .«num_windows» ≡ max32)
 
 pub record Demand1 (step : Machine → Decoded → Stepped) : Type 0 where
-  -- each row if and only if its test holds and no earlier row's does, the malformed state first; what it leaves
-  pub refusals : EveryRefusal step
+  -- sixteen bytes are a record if and only if they are what it is encoded as, and all others meet the first row
+  pub decodes : Decodes
+  -- each row of 01's table if and only if its test holds and no earlier row's does, the malformed state first
+  pub exactly : (m : Machine) (d : Decoded) → Exactly step (rowsOf m d) m d
+  -- before the touch nothing is changed, and after it the sample is kept and nothing else changed
+  pub kept : (m : Machine) (d : Decoded) → Kept step m d
   pub numbers : RowNumbers
   pub from-setup :
       (slots period tick : ℕ) → 0 < slots → GoodSetup period tick → (ds : List Decoded) →

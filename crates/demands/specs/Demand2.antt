@@ -1,14 +1,17 @@
 -- Demand 2, gathered: upstream's clauses, 01's formulas and exact refusals, and the round trip.
 use Rattle.ledger.specs.Laws as ledger
-use Rattle.machine.specs.Step.{stepOf}
-use Rattle.machine.specs.Laws.{EveryRefusal, EveryAnswer}
-use Rattle.demands.specs.Leaves.{ElapsedCyclesExact, CyclesToTicksExact, TicksToCyclesExact, MaxTicksExact, ElapsedDecideExact, AnnounceDecideExact, EnableExact, DisableExact, AccumulateExact, AverageIs, StampsApart, RoundTrip}
+use Rattle.trace.specs.declared.Decoded.{Decoded}
+use Rattle.machine.specs.declared.Machine.{Machine}
+use Rattle.machine.specs.declared.Stepped.{Stepped}
+use Rattle.machine.specs.Laws.{Exactly, EveryAnswer}
+use Rattle.demands.specs.Rows.{rowsOf}
+use Rattle.demands.specs.Leaves.{ElapsedCyclesExact, CyclesToTicksExact, TicksToCyclesExact, MaxTicksExact, ElapsedDecideExact, AnnounceDecideExact, EnableExact, DisableExact, AccumulateExact, AverageIs, StampIs, StampsApart, RoundTrip}
 use Rattle.demands.specs.Refusals.{EntryRefusals}
 use Rattle.demands.specs.UpstreamTimer.{TimerClauses, TimerLemmas}
 use Rattle.demands.specs.UpstreamThread.{ThreadClauses, ThreadLemmas}
 use Rattle.demands.specs.Numbers.{Numbers}
 
-pub record Demand2 : Type 0 where
+pub record Demand2 (step : Machine → Decoded → Stepped) : Type 0 where
   -- Every upstream clause follows from ours, or 01 names what replaces it.
   pub timer-clauses : TimerClauses
   pub timer-lemmas : TimerLemmas
@@ -25,13 +28,15 @@ pub record Demand2 : Type 0 where
   pub disable : DisableExact
   pub accumulate : AccumulateExact
   pub average : AverageIs
+  pub stamp : StampIs
   pub stamps-apart : StampsApart
   -- of counter, clock and ledger, and of a trace's records
   pub entry-refusals : EntryRefusals
   pub operations : ledger.EveryOperation
   pub operation-refusals : ledger.EveryRefusal
-  pub records : EveryAnswer stepOf
-  pub record-refusals : EveryRefusal stepOf
+  pub entry-of-one-record : ledger.EveryEntry
+  pub records : EveryAnswer step
+  pub record-refusals : (m : Machine) (d : Decoded) → Exactly step (rowsOf m d) m d
   -- For a tick above 0, ticks made into cycles come back as the same ticks, wherever they fit.
   pub round-trip : RoundTrip
   -- and 01's numbers to check

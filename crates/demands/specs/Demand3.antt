@@ -5,7 +5,7 @@ use mathlib.Core.List.{List}
 use Rattle.clock.specs.declared.Gaps.{Gaps}
 use Rattle.clock.specs.Holds.{GoodSetup}
 use Rattle.ledger.specs.Operate.{recordOf}
-use Rattle.ledger.specs.Sums.{length, sumOf, edge, AllShort, ChainShort, firstOf, Within}
+use Rattle.ledger.specs.Sums.{trueCycles, sumOf, edge, AllShort, ChainShort, firstOf, Within}
 use Rattle.trace.specs.declared.Record.the-variants as K
 use Rattle.trace.specs.declared.Decoded.{Decoded}
 use Rattle.trace.specs.declared.Decoded.the-variants as D
@@ -36,8 +36,11 @@ module _ (step : Machine → Decoded → Stepped) (period tick : ℕ) where
   -- with no premises, after any trace
   pub record Always (w : Watched) : Type 0 where
     pub announcement : (answered : Values) → step (w .machine) (D.Accepted K.Announce) .outcome ≡ Told.Accepted answered → Announces (w .machine) (step (w .machine) (D.Accepted K.Announce) .machine) answered
-    -- the machine total has risen since the last start by the cycles answered
-    pub rise : w .machine .ledger .books .total .0 ≡ w .begun + w .printed
+    -- T is the cycles run, and announced the ticks answered, times the tick
+    pub cycles : w .machine .timer .counter .cycles .0 ≡ w .ran
+    pub announced : w .machine .timer .clock .announced .0 ≡ w .ticks * tick
+    -- the machine total has risen since the last start by the cycles answered since
+    pub rise : w .machine .ledger .books .total .0 ≡ w .before + w .since
 
   -- in a fair run
   pub record Fairly (w : Watched) : Type 0 where
@@ -46,9 +49,9 @@ module _ (step : Machine → Decoded → Stepped) (period tick : ℕ) where
     pub shows : (g : Gaps) (answered : Values) → FairSample period (w .ran) (w .atC) g → step (w .machine) (D.Accepted (K.Sample g)) .outcome ≡ Told.Accepted answered → w .machine .timer .clock .count .0 + answered .x ≡ timeC (w .ran) g
     -- each thread's total misses its true tracked cycles, over closed stretches, by at most one per stretch that begins or
     -- ends on a multiple of 2^32, where none exceeds 2^32 - 2 cycles
-    pub totals : (i : ℕ) → AllShort i (w .threads .closed) → Within (recordOf (w .machine .ledger) i .«total_cycles» .0) (sumOf length i (w .threads .closed)) (sumOf edge i (w .threads .closed))
+    pub totals : (i : ℕ) → AllShort i (w .threads .closed) → Within (recordOf (w .machine .ledger) i .«total_cycles» .0) (sumOf trueCycles i (w .threads .closed)) (sumOf edge i (w .threads .closed))
     -- all stretches since one start, summed as they were answered, miss by at most one
-    pub chain : ChainShort (w .threads .last) (w .threads .times) → Within (w .printed) (length (firstOf (w .threads .last) (w .threads .times)) (w .threads .last)) (edge (firstOf (w .threads .last) (w .threads .times)) (w .threads .last))
+    pub chain : ChainShort (w .threads .last) (w .threads .times) → Within (w .since) (trueCycles (firstOf (w .threads .last) (w .threads .times)) (w .threads .last)) (edge (firstOf (w .threads .last) (w .threads .times)) (w .threads .last))
 
 abbrev pub Demand3 : (Machine → Decoded → Stepped) → Type 0
 Demand3 step =

@@ -16,6 +16,7 @@ use Rattle.usage.specs.Record.{newIdle}
 use Rattle.usage.specs.Leaves.{enabled, disabled, accumulated, averageCycles, elapsedCycles as elapsedStamps}
 use Rattle.usage.specs.Says.{changedSays}
 use Rattle.usage.specs.declared.ThreadUsage.{ThreadUsage}
+use Rattle.ledger.specs.Stamp.{stampOf}
 use Rattle.demands.specs.Exact.{Exact}
 
 abbrev pub ElapsedCyclesExact : Type 0
@@ -97,9 +98,13 @@ AccumulateExact =
 abbrev pub DisableExact : Type 0
 DisableExact = (u : ThreadUsage) → changedSays (disabled u) ≡ accepted (thread false (u .«total_cycles») (u .«num_windows»))
 
--- what is never refused: the average, and the difference of two 32-bit stamps, which wraps at 2^32
+-- what is never refused: the average, the stamp of a reading, and the difference of two stamps, which wraps at 2^32
 abbrev pub AverageIs : Type 0
 AverageIs = (total : Cycles) (windows : ℕ) → averageCycles total windows .0 ≡ cond (eqb windows 0) 0 (total .0 / windows)
+
+-- low 32 bits of the reading; 0 becomes 1
+abbrev pub StampIs : Type 0
+StampIs = (reading : ℕ) → stampOf reading ≡ cond (eqb (reading % 2 ^ 32) 0) 1 (reading % 2 ^ 32)
 
 abbrev pub StampsApart : Type 0
 StampsApart = (now then : ℕ) → elapsedStamps now then ≡ (now + 2 ^ 32 - then) % 2 ^ 32

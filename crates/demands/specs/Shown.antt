@@ -5,7 +5,7 @@ use mathlib.Core.List.{List, [], _∷_}
 use Rattle.clock.specs.declared.Gaps.{Gaps}
 use Rattle.clock.specs.Shown.{gaps}
 use Rattle.ledger.specs.Operate.{recordOf}
-use Rattle.ledger.specs.Sums.{length, sumOf, edge, AllShort, ChainShort}
+use Rattle.ledger.specs.Sums.{trueCycles, sumOf, edge, AllShort, ChainShort}
 use Rattle.trace.specs.declared.Record.{Record}
 use Rattle.trace.specs.declared.Record.the-variants as K
 use Rattle.trace.specs.declared.Decoded.{Decoded}
@@ -62,7 +62,7 @@ OneWrap rs g = let w = after (taken rs) in wrapsBy 10 (timeC (w .ran) g) ≤ wra
 abbrev pub NoneToD : List Record → Gaps → Type 0
 NoneToD rs g = let w = after (taken rs) in wrapsBy 10 (w .atC) < wrapsBy 10 (timeC (w .ran) g) → wrapsBy 10 (w .ran + wholeOf g) ≡ wrapsBy 10 (timeC (w .ran) g)
 
--- so many refused records leave the run as it is
+-- refused records, which leave the run as it is
 abbrev pub refused : List Decoded
 refused = taken (K.Start 9 atOnce ∷ K.Setup (record { period = 10; tick = 4 }) ∷ K.Report 2 ∷ [])
 
@@ -70,16 +70,16 @@ pub record Shown : Type 0 where
   -- the printed case is fair; its last reading is T, and thread 0's total its true tracked cycles
   pub printed-fair : FairTrace stepOf 10 printed (setUp stepOf 2 10 4)
   pub printed-reads : (after printed .machine .timer .clock .last .0 ≡ 23) × (after printed .atC ≡ 23)
-  pub printed-total : (recordOf (after printed .machine .ledger) 0 .«total_cycles» .0 ≡ 12) × (sumOf length 0 (after printed .threads .closed) ≡ 12)
+  pub printed-total : (recordOf (after printed .machine .ledger) 0 .«total_cycles» .0 ≡ 12) × (sumOf trueCycles 0 (after printed .threads .closed) ≡ 12)
   pub printed-short : AllShort 0 (after printed .threads .closed)
   -- a total that misses one cycle, as one edge allows
   pub zero-fair : FairTrace stepOf 10 from-zero (setUp stepOf 2 10 4)
   pub zero-short : AllShort 0 (after from-zero .threads .closed)
-  pub zero-total : (recordOf (after from-zero .machine .ledger) 0 .«total_cycles» .0 ≡ 8) × (sumOf length 0 (after from-zero .threads .closed) ≡ 9) × (sumOf edge 0 (after from-zero .threads .closed) ≡ 1)
+  pub zero-total : (recordOf (after from-zero .machine .ledger) 0 .«total_cycles» .0 ≡ 8) × (sumOf trueCycles 0 (after from-zero .threads .closed) ≡ 9) × (sumOf edge 0 (after from-zero .threads .closed) ≡ 1)
   -- and so does a sum from one start to its stop, over three stretches: answered 8, true 9
   pub three-fair : FairTrace stepOf 10 three (setUp stepOf 2 10 4)
   pub three-short : ChainShort (after three .threads .last) (after three .threads .times)
-  pub three-sum : (after three .printed ≡ 8) × (after three .threads .last ≡ 9) × (after three .machine .ledger .books .total .0 ≡ 8)
+  pub three-sum : (after three .since ≡ 8) × (after three .threads .last ≡ 9) × (after three .machine .ledger .books .total .0 ≡ 8)
   -- each premise broken alone reads 10 cycles short: a slow sample,
   pub slow : Reads (K.Sample (gaps 0 10 0) ∷ []) 0 10
   pub slow-alone : (Quick (gaps 0 10 0) → ⊥) × OneWrap [] (gaps 0 10 0) × NoneToD [] (gaps 0 10 0)

@@ -21,9 +21,10 @@ use Rattle.machine.specs.declared.Outcome.{Outcome}
 use Rattle.machine.specs.declared.Outcome.the-variants as Told
 use Rattle.machine.specs.Table.{crowded}
 use Rattle.machine.specs.Step.{stepOf}
-use Rattle.machine.specs.Laws.{EveryRefusal, EveryAnswer, values}
+use Rattle.machine.specs.Answers.{values}
 use Rattle.demands.specs.Trace.{afterTouch}
 use Rattle.demands.specs.Demand1.{Demand1}
+use Rattle.demands.specs.Demand2.{Demand2}
 use Rattle.demands.specs.Demand3.{Demand3}
 
 -- a record's kind, and its gaps
@@ -69,11 +70,10 @@ abbrev notAnnouncing : (Machine → Bool) → Machine → Decoded → Stepped
 notAnnouncing idle m (D.Accepted r) = cond (eqb (kind r) 2 && idle m) (record { outcome = Told.Accepted (values 0 (m .timer .clock .announced .0)); machine = m }) (stepOf m (D.Accepted r))
 notAnnouncing idle m (D.Refused why) = stepOf m (D.Refused why)
 
--- a machine with another counter, clock, books or record
+-- a machine with another counter, overflow and last reading, announced, books or record
 abbrev withCounter : Machine → Counter → Machine
 withCounter m c = record { ready = m .ready; timer = record { counter = c; clock = m .timer .clock }; ledger = m .ledger }
 
--- the clock's overflow and last reading so much more
 abbrev further : Machine → ℕ → Machine
 further m n = record {
   ready = m .ready;
@@ -96,6 +96,16 @@ withLast m n = record {
   timer = record {
     counter = m .timer .counter;
     clock = record { tick = m .timer .clock .tick; count = m .timer .clock .count; announced = m .timer .clock .announced; overflow = m .timer .clock .overflow; last = record { 0 = n } };
+  };
+  ledger = m .ledger;
+}
+
+abbrev withAnnounced : Machine → ℕ → Machine
+withAnnounced m n = record {
+  ready = m .ready;
+  timer = record {
+    counter = m .timer .counter;
+    clock = record { tick = m .timer .clock .tick; count = m .timer .clock .count; announced = record { 0 = n }; overflow = m .timer .clock .overflow; last = m .timer .clock .last };
   };
   ledger = m .ledger;
 }
@@ -189,8 +199,15 @@ averagesTotal = answering (λ r v. cond (eqb (kind r) 8) (values (v .x) (v .x)) 
 abbrev noWindows : Machine → Decoded → Stepped
 noWindows = leaving (λ m r n. cond (eqb (kind r) 6) (withThread n 0 (recordOf (n .ledger) 0 .«total_cycles» .0) (recordOf (m .ledger) 0 .«num_windows»)) n)
 
+-- ticks told again after every sample, and one that from setup on can't sample
+abbrev tellsAgain : Machine → Decoded → Stepped
+tellsAgain = leaving (λ m r n. cond (eqb (kind r) 1) (withAnnounced n 0) n)
+
+abbrev neverSamples : Machine → Decoded → Stepped
+neverSamples = leaving (λ m r n. cond (eqb (kind r) 9) (further n 4294967295) n)
+
 pub record ShutOut : Type 0 where
-  pub refuser-falls : EveryRefusal refuser → ⊥
+  pub refuser-falls : Demand1 refuser → ⊥
   pub frozen-falls : Demand3 frozen → ⊥
   pub restarting-falls : Demand3 restarting → ⊥
   pub constant-falls : Demand3 constant → ⊥
@@ -202,9 +219,11 @@ pub record ShutOut : Type 0 where
   pub no-D-falls : Demand1 noD → ⊥
   pub longer-falls : Demand3 longer → ⊥
   pub at-most-falls : Demand3 atMost → ⊥
-  pub flag-gone-falls : EveryRefusal flagGone → ⊥
+  pub flag-gone-falls : Demand1 flagGone → ⊥
   pub two-stamps-falls : Demand3 twoStamps → ⊥
-  pub forgetful-falls : EveryRefusal forgetful → ⊥
+  pub forgetful-falls : Demand1 forgetful → ⊥
   pub no-elapsed-falls : Demand3 noElapsed → ⊥
-  pub averages-total-falls : EveryAnswer averagesTotal → ⊥
-  pub no-windows-falls : EveryAnswer noWindows → ⊥
+  pub averages-total-falls : Demand2 averagesTotal → ⊥
+  pub no-windows-falls : Demand2 noWindows → ⊥
+  pub tells-again-falls : Demand3 tellsAgain → ⊥
+  pub never-samples-falls : Demand2 neverSamples → ⊥

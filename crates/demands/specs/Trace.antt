@@ -1,5 +1,5 @@
 -- A trace's run from setup: a machine by its step, and beside it what an onlooker keeps, who has the records, which were
--- accepted with what answer, and 01's counter. The onlooker never looks at what the machine keeps.
+-- accepted with what answer, and 01's counter, and who never looks at what the machine keeps.
 use Prim.Native.Nat.{ℕ, _+_, _<_, _≤_}
 use mathlib.Core.Path.{_≡_}
 use mathlib.Core.Bool.{Bool, true, false, cond}
@@ -21,17 +21,19 @@ use Rattle.machine.specs.declared.Outcome.{Outcome}
 use Rattle.machine.specs.declared.Outcome.the-variants as Told
 use Rattle.machine.specs.Step.{freshMachine}
 
--- what a record lets happen: cycles run, a sample, or a sample with an operation that answered so many cycles
+-- what a record lets happen: cycles run, so many ticks announced, a sample, or a sample with an operation that answered so
+-- many cycles
 pub data Does : Type 0 where
   nothing : Does
   runs : ℕ → Does
+  tell : ℕ → Does
   samples : Gaps → Does
   operates : Operation → Gaps → ℕ → Does
 
 abbrev pub doesOf : Record → ℕ → Does
 doesOf (K.Run p) x = runs p
 doesOf (K.Sample g) x = samples g
-doesOf K.Announce x = nothing
+doesOf K.Announce x = tell x
 doesOf (K.Start i g) x = operates (O.Start i) g x
 doesOf (K.Switch i g) x = operates (O.Switch i) g x
 doesOf (K.Stop g) x = operates O.Stop g x
@@ -44,10 +46,11 @@ doesOf (K.Setup s) x = nothing
 abbrev pub sampleOnly : Does → Does
 sampleOnly nothing = nothing
 sampleOnly (runs n) = runs n
+sampleOnly (tell n) = tell n
 sampleOnly (samples g) = samples g
 sampleOnly (operates op g x) = samples g
 
--- a sum or window that won't fit is refused after the touch, every other refusal comes before it
+-- a sum or window that won't fit is refused after the touch; every other refusal comes before it
 unfoldable pub afterTouch : Reason → Bool
 afterTouch Why.Malformed = false
 afterTouch Why.BadRecord = false
@@ -70,11 +73,13 @@ pub record Watched : Type 0 where
   -- the cycles run so far, and by the last C (setup counts as one)
   pub ran : ℕ
   pub atC : ℕ
+  -- the ticks answered by announcements so far
+  pub ticks : ℕ
   -- who ran between which true times
   pub threads : Threads
-  -- the machine total at the last start, and the cycles answered since, summed
-  pub begun : ℕ
-  pub printed : ℕ
+  -- the cycles answered before the last start, and since it, summed
+  pub before : ℕ
+  pub since : ℕ
 
 -- all that a sample runs, r too where no D follows, and the cycles run by its C
 abbrev pub wholeOf : Gaps → ℕ
@@ -84,16 +89,18 @@ abbrev pub timeC : ℕ → Gaps → ℕ
 timeC ran g = ran + (g .p + g .q)
 
 unfoldable pub seen : Does → Machine → Watched → Watched
-seen nothing m w = record { machine = m; ran = w .ran; atC = w .atC; threads = w .threads; begun = w .begun; printed = w .printed }
-seen (runs n) m w = record { machine = m; ran = w .ran + n; atC = w .atC; threads = w .threads; begun = w .begun; printed = w .printed }
-seen (samples g) m w = record { machine = m; ran = w .ran + wholeOf g; atC = timeC (w .ran) g; threads = w .threads; begun = w .begun; printed = w .printed }
+seen nothing m w = record { machine = m; ran = w .ran; atC = w .atC; ticks = w .ticks; threads = w .threads; before = w .before; since = w .since }
+seen (runs n) m w = record { machine = m; ran = w .ran + n; atC = w .atC; ticks = w .ticks; threads = w .threads; before = w .before; since = w .since }
+seen (tell n) m w = record { machine = m; ran = w .ran; atC = w .atC; ticks = w .ticks + n; threads = w .threads; before = w .before; since = w .since }
+seen (samples g) m w = record { machine = m; ran = w .ran + wholeOf g; atC = timeC (w .ran) g; ticks = w .ticks; threads = w .threads; before = w .before; since = w .since }
 seen (operates op g x) m w = record {
   machine = m;
   ran = w .ran + wholeOf g;
   atC = timeC (w .ran) g;
+  ticks = w .ticks;
   threads = operated (w .threads) op (timeC (w .ran) g);
-  begun = cond (begins (w .threads) op) (m .ledger .books .total .0) (w .begun);
-  printed = answeredAfter (w .threads) op (w .printed) x;
+  before = cond (begins (w .threads) op) (w .before + w .since) (w .before);
+  since = answeredAfter (w .threads) op (w .since) x;
 }
 
 -- demand 3's premises, of 01's counter from setup: its real wraps in so many cycles
@@ -109,6 +116,7 @@ pub record FairSample (period ran atC : ℕ) (g : Gaps) : Type 0 where
 abbrev pub Fair : ℕ → ℕ → ℕ → Does → Type 0
 Fair period ran atC nothing = Unit {0}
 Fair period ran atC (runs n) = Unit {0}
+Fair period ran atC (tell n) = Unit {0}
 Fair period ran atC (samples g) = FairSample period ran atC g
 Fair period ran atC (operates op g x) = FairSample period ran atC g
 
@@ -126,9 +134,10 @@ module _ (step : Machine → Decoded → Stepped) where
     machine = step (freshMachine slots) (D.Accepted (K.Setup (record { period = period; tick = tick }))) .machine;
     ran = 0;
     atC = 0;
+    ticks = 0;
     threads = noneRan;
-    begun = 0;
-    printed = 0;
+    before = 0;
+    since = 0;
   }
 
   -- each sample is fair that was not refused before the touch

@@ -8,7 +8,7 @@ use lib.Dec.{eqb}
 use borrow.Author.Tests.{eqb-true, eqb-false}
 use Rattle.error.specs.Numbers.{max64}
 use Rattle.ledger.specs.Stamp.{stampOf}
-use Rattle.ledger.specs.Sums.{Stretch, sumOf, chainOf, firstOf, length, measured, multiple, off, edge, Short, AllShort, ChainShort, Ordered, ChainOrdered, Within}
+use Rattle.ledger.specs.Sums.{Stretch, sumOf, chainOf, firstOf, trueCycles, measured, multiple, off, edge, Short, AllShort, ChainShort, Ordered, ChainOrdered, Within}
 use Rattle.ledger.specs.Holds.{StampsNear}
 
 -- a stamp is 1 where the low bits are 0, and otherwise the low bits
@@ -24,14 +24,14 @@ low time = by-test (eqb (time % 2 ^ 32) 0) refl
     by-test true e = bumped (eqb-true _ _ e) refl refl
     by-test false e = plain (eqb-false _ _ e) refl refl
 
--- the measured length and the true one, with what each end is off by
+-- the measured trueCycles and the true one, with what each end is off by
 exact-by : (from to s t x y : ℕ) → from ≤ to → Short from to → Low from s x → Low to t y → (t + 2 ^ 32 - s) % 2 ^ 32 + x ≡ to - from + y
 exact-by from to s t x y o h (bumped a b c) (bumped d e f) = omega arith
 exact-by from to s t x y o h (bumped a b c) (plain d e f) = omega arith
 exact-by from to s t x y o h (plain a b c) (bumped d e f) = omega arith
 exact-by from to s t x y o h (plain a b c) (plain d e f) = omega arith
 
-pub stamps-off : (from to : ℕ) → from ≤ to → Short from to → measured from to + off from ≡ length from to + off to
+pub stamps-off : (from to : ℕ) → from ≤ to → Short from to → measured from to + off from ≡ trueCycles from to + off to
 stamps-off from to o h = exact-by from to _ _ _ _ o h (low from) (low to)
 
 -- however long the stretch, no more is measured than the true cycles, with what each end is off by
@@ -41,7 +41,7 @@ most-by from to s t x y h (bumped a b c) (plain d e f) = omega arith
 most-by from to s t x y h (plain a b c) (bumped d e f) = omega arith
 most-by from to s t x y h (plain a b c) (plain d e f) = omega arith
 
-pub stamps-most : (from to : ℕ) → from ≤ to → measured from to + off from ≤ length from to + off to
+pub stamps-most : (from to : ℕ) → from ≤ to → measured from to + off from ≤ trueCycles from to + off to
 stamps-most from to h = most-by from to _ _ _ _ h (low from) (low to)
 
 -- a later time, with what it is off by, is no less, and where the time fits 64 bits so does the sum
@@ -62,9 +62,9 @@ off-fits time h = by-low (low time)
     by-low (plain a b c) = omega arith
 
 -- a measure that is off by `less` at each end of a stretch
-module _ (measure : ℕ → ℕ → ℕ) (less : ℕ → ℕ) (law : (from to : ℕ) → from ≤ to → Short from to → measure from to + less from ≡ length from to + less to) where
+module _ (measure : ℕ → ℕ → ℕ) (less : ℕ → ℕ) (law : (from to : ℕ) → from ≤ to → Short from to → measure from to + less from ≡ trueCycles from to + less to) where
   -- along a chain the parts in the middle cancel
-  pub telescopes : (time : ℕ) (times : List ℕ) → ChainOrdered time times → ChainShort time times → (chainOf measure time times + less (firstOf time times) ≡ length (firstOf time times) time + less time) × (firstOf time times ≤ time)
+  pub telescopes : (time : ℕ) (times : List ℕ) → ChainOrdered time times → ChainShort time times → (chainOf measure time times + less (firstOf time times) ≡ trueCycles (firstOf time times) time + less time) × (firstOf time times ≤ time)
   unfolding chainOf
   telescopes time [] ordered short = (omega arith, omega arith)
   telescopes time (t ∷ rest) ordered short =
@@ -75,19 +75,19 @@ module _ (measure : ℕ → ℕ → ℕ) (less : ℕ → ℕ) (law : (from to : 
 
   module _ (most : ℕ → ℕ → ℕ) (ends : (from to : ℕ) → (less from ≤ most from to) × (less to ≤ most from to)) where
     -- and so from one start to its stop only the first and the last end count
-    pub chain-within : (time : ℕ) (times : List ℕ) → ChainOrdered time times → ChainShort time times → Within (chainOf measure time times) (length (firstOf time times) time) (most (firstOf time times) time)
+    pub chain-within : (time : ℕ) (times : List ℕ) → ChainOrdered time times → ChainShort time times → Within (chainOf measure time times) (trueCycles (firstOf time times) time) (most (firstOf time times) time)
     chain-within time times ordered short =
         let sum = telescopes time times ordered short .0 in
         let e = ends (firstOf time times) time in
         record { low = omega arith; high = omega arith }
 
     -- over any list of stretches the sums differ by at most the number of those with an end that is off
-    pub sums-within : (i : ℕ) (closed : List Stretch) → Ordered closed → AllShort i closed → Within (sumOf measure i closed) (sumOf length i closed) (sumOf most i closed)
+    pub sums-within : (i : ℕ) (closed : List Stretch) → Ordered closed → AllShort i closed → Within (sumOf measure i closed) (sumOf trueCycles i closed) (sumOf most i closed)
     unfolding sumOf
     sums-within i [] ordered short = record { low = omega arith; high = omega arith }
     sums-within i (s ∷ rest) ordered short = one-more _ _ _ _ _ _ (sums-within i rest (ordered .1) (short .1)) (s .tracked && eqb (s .thread) i) (λ mine. within-one s (ordered .0) (short .0 mine))
       where
-        within-one : (s : Stretch) → s .from ≤ s .to → Short (s .from) (s .to) → Within (measure (s .from) (s .to)) (length (s .from) (s .to)) (most (s .from) (s .to))
+        within-one : (s : Stretch) → s .from ≤ s .to → Short (s .from) (s .to) → Within (measure (s .from) (s .to)) (trueCycles (s .from) (s .to)) (most (s .from) (s .to))
         within-one s o h =
             let e = ends (s .from) (s .to) in
             let exact = law (s .from) (s .to) o h in
@@ -108,14 +108,14 @@ edge-ends from to = by-test (multiple from) (multiple to)
     by-test false false = (omega arith, omega arith)
 
 -- the 32-bit stamps
-pub stamp-sums : (i : ℕ) (closed : List Stretch) → Ordered closed → AllShort i closed → Within (sumOf measured i closed) (sumOf length i closed) (sumOf edge i closed)
+pub stamp-sums : (i : ℕ) (closed : List Stretch) → Ordered closed → AllShort i closed → Within (sumOf measured i closed) (sumOf trueCycles i closed) (sumOf edge i closed)
 stamp-sums = sums-within measured off stamps-off edge edge-ends
 
-pub stamp-chain : (time : ℕ) (times : List ℕ) → ChainOrdered time times → ChainShort time times → Within (chainOf measured time times) (length (firstOf time times) time) (edge (firstOf time times) time)
+pub stamp-chain : (time : ℕ) (times : List ℕ) → ChainOrdered time times → ChainShort time times → Within (chainOf measured time times) (trueCycles (firstOf time times) time) (edge (firstOf time times) time)
 stamp-chain = chain-within measured off stamps-off edge edge-ends
 
 -- a measure with no error at all: the sums are the true ones
-pub exact-sums : (measure : ℕ → ℕ → ℕ) → ((from to : ℕ) → Short from to → measure from to ≡ length from to) → (i : ℕ) (closed : List Stretch) → Ordered closed → AllShort i closed → Within (sumOf measure i closed) (sumOf length i closed) (sumOf (λ from to. 0) i closed)
+pub exact-sums : (measure : ℕ → ℕ → ℕ) → ((from to : ℕ) → Short from to → measure from to ≡ trueCycles from to) → (i : ℕ) (closed : List Stretch) → Ordered closed → AllShort i closed → Within (sumOf measure i closed) (sumOf trueCycles i closed) (sumOf (λ from to. 0) i closed)
 exact-sums measure exact = sums-within measure (λ time. 0) (λ from to order short. ap (λ (n : ℕ). n + 0) (exact from to short)) (λ from to. 0) (λ from to. (omega arith, omega arith))
 
 pub stamps-near : StampsNear

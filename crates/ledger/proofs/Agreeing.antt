@@ -24,7 +24,7 @@ use Rattle.ledger.specs.declared.Ledgered.{Ledgered}
 use Rattle.ledger.specs.Stamp.{stampOf}
 use Rattle.ledger.specs.Entries.{stopped, runs, enterOf}
 use Rattle.ledger.specs.Laws.{closes, flagAfter, stampAfter, runningAfter, EntryIs}
-use Rattle.ledger.specs.Operate.{unrecorded, past, concerned, recordOf, refusedWith, operateTests, operateOf}
+use Rattle.ledger.specs.Operate.{unrecorded, past, busy, concerned, recordOf, refusedWith, operateTests, operateOf}
 use Rattle.ledger.specs.Sums.{sumOf, allOf, chainOf, measured}
 use Rattle.ledger.specs.Run.{World, Event, Open, none, since, begin, isNone, isOf, closesNow, begins, openAfter, trackedAfter, shut, afterAnswer, step, after}
 use Rattle.ledger.specs.Holds.{Marked, EveryRun}
@@ -114,13 +114,13 @@ module _ (slots : ℕ) (w : World) (k : Kept slots w) where
   b = w .ledger .books
 
   -- the ledger closes exactly where the onlooker says so
-  closing : (op : Operation) → closes b (recordOf (w .ledger) (concerned b op)) op ≡ closesNow (w .threads) op
-  unfolding closes closesNow concerned
-  closing (O.Start i) = refl
-  closing (O.Switch i) = ap not (marked-none slots b (w .threads .stretch) (k .mark))
-  closing O.Stop = ap not (marked-none slots b (w .threads .stretch) (k .mark))
-  closing (O.Enable i) = simp (k .flags i, marked-of slots b (w .threads .stretch) (k .mark) i)
-  closing (O.Disable i) = simp (k .flags i, marked-of slots b (w .threads .stretch) (k .mark) i)
+  closing : (op : Operation) → busy b op ≡ false → closes b (recordOf (w .ledger) (concerned b op)) op ≡ closesNow (w .threads) op
+  unfolding closes closesNow concerned busy
+  closing (O.Start i) free = sym free ∙ ap not (marked-none slots b (w .threads .stretch) (k .mark))
+  closing (O.Switch i) free = ap not (marked-none slots b (w .threads .stretch) (k .mark))
+  closing O.Stop free = ap not (marked-none slots b (w .threads .stretch) (k .mark))
+  closing (O.Enable i) free = simp (k .flags i, marked-of slots b (w .threads .stretch) (k .mark) i)
+  closing (O.Disable i) free = simp (k .flags i, marked-of slots b (w .threads .stretch) (k .mark) i)
 
   -- and then the record concerned is that of the thread whose stretch is open
   and-true : (x y : Bool) → x && y ≡ true → y ≡ true
@@ -131,13 +131,13 @@ module _ (slots : ℕ) (w : World) (k : Kept slots w) where
   of-running none m e i = clash (cc)
   of-running (since j from) m e i = simp (ne-eqb (b .stamp) 0 (λ z. stamped from (sym (m .0) ∙ z)), m .1) (eq-eqb j j refl)
 
-  on-concerned : (op : Operation) → closesNow (w .threads) op ≡ true → isOf (w .threads .stretch) (concerned b op) ≡ true
-  unfolding closesNow concerned
-  on-concerned (O.Start i) e = clash (cc)
-  on-concerned (O.Switch i) e = of-running (w .threads .stretch) (k .mark) e i
-  on-concerned O.Stop e = of-running (w .threads .stretch) (k .mark) e 0
-  on-concerned (O.Enable i) e = and-true (not (w .threads .tracked i)) _ e
-  on-concerned (O.Disable i) e = and-true (w .threads .tracked i) _ e
+  on-concerned : (op : Operation) → busy b op ≡ false → closesNow (w .threads) op ≡ true → isOf (w .threads .stretch) (concerned b op) ≡ true
+  unfolding closes closesNow concerned
+  on-concerned (O.Start i) free e = let q = closing (O.Start i) free in clash (cc)
+  on-concerned (O.Switch i) free e = of-running (w .threads .stretch) (k .mark) e i
+  on-concerned O.Stop free e = of-running (w .threads .stretch) (k .mark) e 0
+  on-concerned (O.Enable i) free e = and-true (not (w .threads .tracked i)) _ e
+  on-concerned (O.Disable i) free e = and-true (w .threads .tracked i) _ e
 
   not-none : (o : Open) (i : ℕ) → isOf o i ≡ true → isNone o ≡ false
   not-none none i e = clash (cc)
@@ -168,21 +168,21 @@ module _ (slots : ℕ) (w : World) (k : Kept slots w) where
     other-flag (O.Disable i) m = simp m
 
   -- an accepted entry of an operation at a time
-  module _ (op : Operation) (time : ℕ) (e : Entry) (law : EntryIs b (recordOf (w .ledger) (concerned b op)) (stampOf time) op e) where
+  module _ (op : Operation) (time : ℕ) (e : Entry) (law : EntryIs b (recordOf (w .ledger) (concerned b op)) (stampOf time) op e) (free : busy b op ≡ false) where
     abbrev at : ℕ
     at = concerned b op
 
     -- the cycles answered are those of the stretch that the onlooker closes
     cycles-of : (c : Bool) → closesNow (w .threads) op ≡ c → e .cycles ≡ cond c (added (w .threads .stretch) time) 0
-    cycles-of true q = law .cycles ∙ simp (closing op ∙ q) (cycles-are slots b (w .threads .stretch) time (k .mark) (not-none (w .threads .stretch) at (on-concerned op q)))
-    cycles-of false q = law .cycles ∙ simp (closing op ∙ q)
+    cycles-of true q = law .cycles ∙ simp (closing op free ∙ q) (cycles-are slots b (w .threads .stretch) time (k .mark) (not-none (w .threads .stretch) at (on-concerned op free q)))
+    cycles-of false q = law .cycles ∙ simp (closing op free ∙ q)
 
     machine-after : e .books .total .0 ≡ allOf measured (cond (closesNow (w .threads) op) (shut (w .threads) time (w .threads .stretch)) (w .threads .closed))
     machine-after = law .machine ∙ (ap (λ (n : ℕ). n + e .cycles) (k .machine) ∙ (ap (λ (n : ℕ). allOf measured (w .threads .closed) + n) (cycles-of (closesNow (w .threads) op) refl) ∙ sym (all-after w time (w .threads .stretch) (closesNow (w .threads) op))))
 
     -- the total of the record concerned, and of every other
     credit : (j : ℕ) (c : Bool) → closesNow (w .threads) op ≡ c → (mine : Bool) → eqb at j ≡ mine → cond mine (cond (w .threads .tracked at) (cond c (added (w .threads .stretch) time) 0) 0) 0 ≡ cond c (cond (owner (w .threads .stretch) (w .threads .tracked) j) (added (w .threads .stretch) time) 0) 0
-    credit j true q mine m = rw (owned (w .threads .stretch) at j (on-concerned op q), m) (both-ways (w .threads .tracked at) mine (added (w .threads .stretch) time))
+    credit j true q mine m = rw (owned (w .threads .stretch) at j (on-concerned op free q), m) (both-ways (w .threads .tracked at) mine (added (w .threads .stretch) time))
       where
         both-ways : (tracked mine : Bool) (n : ℕ) → cond mine (cond tracked n 0) 0 ≡ cond (tracked && mine) n 0
         both-ways true true n = refl
@@ -236,31 +236,40 @@ module _ (slots : ℕ) (w : World) (k : Kept slots w) where
     -- enable and disable: the mark moves on where a stretch is closed and opened, and stays elsewhere
     altered-mark : (i : ℕ) → e .books .stamp ≡ cond (closesNow (w .threads) op) (stampOf time) (b .stamp) → e .books .running ≡ b .running → at ≡ i → (c : Bool) → closesNow (w .threads) op ≡ c → Marked slots (e .books) (cond c (since i time) (w .threads .stretch))
     altered-mark i s r a true c =
-        let own = of-thread (w .threads .stretch) i (rw (← a) (on-concerned op c)) (k .mark) in
+        let own = of-thread (w .threads .stretch) i (rw (← a) (on-concerned op free c)) (k .mark) in
         (s ∙ simp c, r ∙ own .0, own .1)
     altered-mark i s r a false c = same-mark (w .threads .stretch) (s ∙ simp c) r (k .mark)
 
   module _ (time : ℕ) (e : Entry) where
     mark-after : (op : Operation) → EntryIs b (recordOf (w .ledger) (concerned b op)) (stampOf time) op e → past op slots ≡ false → Marked slots (e .books) (openAfter (w .threads) time op)
-    unfolding openAfter stampAfter runningAfter past concerned
+    unfolding openAfter stampAfter runningAfter past concerned busy
     mark-after (O.Start i) law p = (law .stamp, law .running, leb-false _ _ p)
     mark-after (O.Switch i) law p = (law .stamp, law .running, leb-false _ _ p)
     mark-after O.Stop law p = law .stamp
     mark-after (O.Enable i) law p =
-        altered-mark (O.Enable i) time e law i (law .stamp ∙ ap (λ (c : Bool). cond c (stampOf time) (b .stamp)) (closing (O.Enable i))) (law .running) refl (closesNow (w .threads) (O.Enable i)) refl
+        altered-mark (O.Enable i) time e law refl i (law .stamp ∙ ap (λ (c : Bool). cond c (stampOf time) (b .stamp)) (closing (O.Enable i) refl)) (law .running) refl (closesNow (w .threads) (O.Enable i)) refl
     mark-after (O.Disable i) law p =
-        altered-mark (O.Disable i) time e law i (law .stamp ∙ ap (λ (c : Bool). cond c (stampOf time) (b .stamp)) (closing (O.Disable i))) (law .running) refl (closesNow (w .threads) (O.Disable i)) refl
+        altered-mark (O.Disable i) time e law refl i (law .stamp ∙ ap (λ (c : Bool). cond c (stampOf time) (b .stamp)) (closing (O.Disable i) refl)) (law .running) refl (closesNow (w .threads) (O.Disable i)) refl
+
+  -- what begins a chain closes nothing
+  begins-idle : (op : Operation) → busy b op ≡ false → begins (w .threads) op ≡ true → closesNow (w .threads) op ≡ false
+  unfolding begins closesNow closes
+  begins-idle (O.Start i) free e = sym (closing (O.Start i) free)
+  begins-idle (O.Switch i) free e = ap not e
+  begins-idle O.Stop free e = clash (cc)
+  begins-idle (O.Enable i) free e = clash (cc)
+  begins-idle (O.Disable i) free e = clash (cc)
 
   -- the chain since the last start
-  chain-after : (op : Operation) (time : ℕ) (e : Entry) → EntryIs b (recordOf (w .ledger) (concerned b op)) (stampOf time) op e → (new c : Bool) → closesNow (w .threads) op ≡ c → cond new 0 (w .answered + e .cycles) ≡ chainOf measured (cond new time (cond c time (w .threads .last))) (cond new [] (cond c (w .threads .last ∷ w .threads .times) (w .threads .times)))
+  chain-after : (op : Operation) (time : ℕ) (e : Entry) → EntryIs b (recordOf (w .ledger) (concerned b op)) (stampOf time) op e → busy b op ≡ false → (new c : Bool) → begins (w .threads) op ≡ new → closesNow (w .threads) op ≡ c → cond new (e .cycles) (w .answered + e .cycles) ≡ chainOf measured (cond new time (cond c time (w .threads .last))) (cond new [] (cond c (w .threads .last ∷ w .threads .times) (w .threads .times)))
   unfolding chainOf added Follows
-  chain-after op time e law true c q = refl
-  chain-after op time e law false true q = rw (k .chain, cycles-of op time e law true q) (ap (λ (n : ℕ). chainOf measured (w .threads .last) (w .threads .times) + n) (from-last (w .threads .stretch) (not-none (w .threads .stretch) _ (on-concerned op q)) (k .follows)))
+  chain-after op time e law free true c n q = cycles-of op time e law free false (begins-idle op free n)
+  chain-after op time e law free false true n q = rw (k .chain, cycles-of op time e law free true q) (ap (λ (n : ℕ). chainOf measured (w .threads .last) (w .threads .times) + n) (from-last (w .threads .stretch) (not-none (w .threads .stretch) _ (on-concerned op free q)) (k .follows)))
     where
       from-last : (o : Open) → isNone o ≡ false → Follows o (w .threads .last) → added o time ≡ measured (w .threads .last) time
       from-last none n f = clash (cc)
       from-last (since i from) n f = ap (λ (t : ℕ). measured t time) f
-  chain-after op time e law false false q = rw (k .chain, cycles-of op time e law false q) (add-zero _)
+  chain-after op time e law free false false n q = rw (k .chain, cycles-of op time e law free false q) (add-zero _)
 
   -- an open stretch begins at the last closing or opening
   follows-after : (op : Operation) (time : ℕ) → Follows (openAfter (w .threads) time op) (cond (begins (w .threads) op) time (cond (closesNow (w .threads) op) time (w .threads .last)))
@@ -291,7 +300,7 @@ step-keeps slots some ev w k =
     stored-by (w .ledger) (concerned (w .ledger .books) (ev .operation)) P
     (enterOf (w .ledger .books) (recordOf (w .ledger) (concerned (w .ledger .books) (ev .operation))) (stampOf (ev .time)) (ev .operation))
     unchanged
-    (λ e p. accepted e (entry-is _ _ _ _ e p) (rw (k .size) at (tests .0)) (rw (k .size) at (tests .1 .0))))
+    (λ e p. accepted e (entry-is _ _ _ _ e p) (rw (k .size) at (tests .0)) (rw (k .size) at (tests .1 .0)) (tests .1 .1 .0)))
   where
     P : Ledgered → Type 0
     P o = Kept slots (afterAnswer w ev (o .ledger) (o .answer))
@@ -299,16 +308,16 @@ step-keeps slots some ev w k =
     unchanged : (why : Refusal) → P (refusedWith (w .ledger) why)
     unchanged why = record { size = k .size; mark = k .mark; flags = k .flags; totals = k .totals; machine = k .machine; chain = k .chain; follows = k .follows }
 
-    accepted : (e : Entry) → EntryIs (w .ledger .books) (recordOf (w .ledger) (concerned (w .ledger .books) (ev .operation))) (stampOf (ev .time)) (ev .operation) e → unrecorded (w .ledger .books) slots ≡ false → past (ev .operation) slots ≡ false → P (record { answer = A.Accepted (e .cycles); ledger = record { books = e .books; threads = set (w .ledger .threads) (concerned (w .ledger .books) (ev .operation)) (e .usage) } })
-    accepted e law r p =
+    accepted : (e : Entry) → EntryIs (w .ledger .books) (recordOf (w .ledger) (concerned (w .ledger .books) (ev .operation))) (stampOf (ev .time)) (ev .operation) e → unrecorded (w .ledger .books) slots ≡ false → past (ev .operation) slots ≡ false → busy (w .ledger .books) (ev .operation) ≡ false → P (record { answer = A.Accepted (e .cycles); ledger = record { books = e .books; threads = set (w .ledger .threads) (concerned (w .ledger .books) (ev .operation)) (e .usage) } })
+    accepted e law r p free =
         let inside = within (w .ledger .books) (ev .operation) slots some r p in
         record {
           size = length-set (w .ledger .threads) (concerned (w .ledger .books) (ev .operation)) (e .usage) ∙ k .size;
           mark = mark-after slots w k (ev .time) e (ev .operation) law p;
-          flags = flags-after slots w k (ev .operation) (ev .time) e law inside;
-          totals = totals-after slots w k (ev .operation) (ev .time) e law inside;
-          machine = machine-after slots w k (ev .operation) (ev .time) e law;
-          chain = chain-after slots w k (ev .operation) (ev .time) e law (begins (w .threads) (ev .operation)) (closesNow (w .threads) (ev .operation)) refl;
+          flags = flags-after slots w k (ev .operation) (ev .time) e law free inside;
+          totals = totals-after slots w k (ev .operation) (ev .time) e law free inside;
+          machine = machine-after slots w k (ev .operation) (ev .time) e law free;
+          chain = chain-after slots w k (ev .operation) (ev .time) e law free (begins (w .threads) (ev .operation)) (closesNow (w .threads) (ev .operation)) refl refl;
           follows = follows-after slots w k (ev .operation) (ev .time);
         }
 

@@ -29,9 +29,9 @@ use Rattle.ledger.specs.declared.ThreadReport.{ThreadReport}
 use Rattle.ledger.specs.declared.Reported.the-variants as R
 use Rattle.ledger.specs.Stamp.{stampOf}
 use Rattle.ledger.specs.Entries.{stopped, runs, charged, withChange, onward, closeOf, stopOf, switchOf, altered, reopenOf, alterOf, enterOf}
-use Rattle.ledger.specs.Operate.{unrecorded, past, busy, concerned, recordOf, refusedWith, storedIn, operateTests, operateOf, reportOf}
+use Rattle.ledger.specs.Operate.{unrecorded, past, busy, entryOf, concerned, recordOf, refusedWith, storedIn, operateTests, operateOf, reportOf}
 use Rattle.ledger.specs.Says.{answerSays}
-use Rattle.ledger.specs.Laws.{closes, rises, tooMany, full, EveryRefusal}
+use Rattle.ledger.specs.Laws.{entryNumber, EveryEntry, closes, rises, tooMany, full, EveryRefusal}
 use Rattle.ledger.proofs.Entering.{close-is}
 
 -- refused exactly where the test holds, and then since something does not fit
@@ -164,6 +164,18 @@ every-refusal l reading op =
     carried (λ (o : Ledgered). answerSays (o .answer) .number) (refusedWith l) _ (operateTests l op) ∙
     ap (λ (n : ℤ). cond (unrecorded (l .books) (length (l .threads))) (numberOf Invalid) (cond (past op (length (l .threads))) (numberOf BadThread) (cond (busy (l .books) op) (numberOf Already) n)))
     (stored-number l _ _ _ (entry-by (l .books) (recordOf l (concerned (l .books) op)) (stampOf (reading .0)) op))
+
+pub every-entry : EveryEntry
+unfolding entryOf EntryBy
+every-entry b u reading op = by-test (enterOf b u (stampOf (reading .0)) op) (busy b op) (entered (full b u (stampOf (reading .0)) op) (enterOf b u (stampOf (reading .0)) op) (entry-by b u (stampOf (reading .0)) op))
+  where
+    entered : (t : Bool) (x : Entered) → EntryBy t x → entryNumber x ≡ cond t (numberOf Overflow) ok
+    entered t (E.Accepted e) h = rw h refl
+    entered t (E.Refused why) h = rw (h .0, h .1) refl
+
+    by-test : {n : ℤ} (x : Entered) (t : Bool) → entryNumber x ≡ n → entryNumber (cond t (E.Refused Already) x) ≡ cond t (numberOf Already) n
+    by-test x true e = refl
+    by-test x false e = e
 
 module _ (l : Ledger) (recorded : unrecorded (l .books) (length (l .threads)) ≡ false) where
   stored-fits : (k : ℕ) (t : Bool) (x : Entered) → EntryBy t x → storedIn l k x .answer ≡ A.Refused Invalid → ⊥

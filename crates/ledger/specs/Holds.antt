@@ -14,8 +14,7 @@ use Rattle.usage.specs.Leaves.{elapsedCycles}
 use Rattle.ledger.specs.Stamp.{stampOf}
 use Rattle.ledger.specs.Operate.{concerned, recordOf, operateOf, reportOf}
 use Rattle.ledger.specs.Laws.{closes, tooMany}
-use Rattle.ledger.specs.Sums as sums
-use Rattle.ledger.specs.Sums.{sumOf, allOf, chainOf, firstOf, measured, edge, Short, AllShort, ChainShort, Within}
+use Rattle.ledger.specs.Sums.{trueCycles, sumOf, allOf, chainOf, firstOf, measured, edge, Short, AllShort, ChainShort, Within}
 use Rattle.ledger.specs.Run.{World, Event, Open, none, since, begin, after}
 
 -- the books' mark is that of the open stretch
@@ -36,7 +35,7 @@ pub record Agrees (slots : ℕ) (w : World) : Type 0 where
 
 -- one stretch: measured less true is -1, 0 or 1, and 0 unless it begins or ends on a multiple of 2^32
 abbrev pub StampsNear : Type 0
-StampsNear = (from to : ℕ) → from ≤ to → Short from to → Within (measured from to) (sums.length from to) (edge from to)
+StampsNear = (from to : ℕ) → from ≤ to → Short from to → Within (measured from to) (trueCycles from to) (edge from to)
 
 -- operations at times that never fall, from a time to a time
 abbrev pub Timely : ℕ → List Event → ℕ → Type 0
@@ -46,9 +45,9 @@ Timely from (e ∷ es) to = (from ≤ e .time) × Timely (e .time) es to
 -- where no time falls, and the stretches in question are no longer than 2^32 - 2 cycles
 pub record Near (w : World) : Type 0 where
   -- each thread's total misses its true tracked cycles by at most one for each stretch that begins or ends on a multiple of 2^32
-  pub threads : (i : ℕ) → AllShort i (w .threads .closed) → Within (recordOf (w .ledger) i .«total_cycles» .0) (sumOf sums.length i (w .threads .closed)) (sumOf edge i (w .threads .closed))
+  pub threads : (i : ℕ) → AllShort i (w .threads .closed) → Within (recordOf (w .ledger) i .«total_cycles» .0) (sumOf trueCycles i (w .threads .closed)) (sumOf edge i (w .threads .closed))
   -- all stretches since one start, summed, miss by at most one, and by none unless the first begins or the last ends on such a multiple
-  pub chain : ChainShort (w .threads .last) (w .threads .times) → Within (w .answered) (sums.length (firstOf (w .threads .last) (w .threads .times)) (w .threads .last)) (edge (firstOf (w .threads .last) (w .threads .times)) (w .threads .last))
+  pub chain : ChainShort (w .threads .last) (w .threads .times) → Within (w .answered) (trueCycles (firstOf (w .threads .last) (w .threads .times)) (w .threads .last)) (edge (firstOf (w .threads .last) (w .threads .times)) (w .threads .last))
 
 abbrev pub EveryRun : Type 0
 EveryRun =

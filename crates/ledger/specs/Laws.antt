@@ -4,6 +4,7 @@ use mathlib.Core.Path.{_≡_}
 use mathlib.Core.Bool.{Bool, true, false, cond, not, _&&_, _||_}
 use mathlib.Core.List.{List, [], _∷_}
 use lib.ListN.{length}
+use lib.IntN.{ℤ}
 use lib.Dec.{ltb, eqb}
 use Rattle.error.specs.declared.Refusal.{Refusal}
 use Rattle.error.specs.declared.Refusal.the-variants.{Invalid, BadThread, Already, Overflow}
@@ -14,6 +15,8 @@ use Rattle.usage.specs.declared.ThreadUsage.{ThreadUsage}
 use Rattle.usage.specs.Leaves.{elapsedCycles}
 use Rattle.ledger.specs.declared.Books.{Books}
 use Rattle.ledger.specs.declared.Entry.{Entry}
+use Rattle.ledger.specs.declared.Entered.{Entered}
+use Rattle.ledger.specs.declared.Entered.the-variants as E
 use Rattle.ledger.specs.declared.Operation.{Operation}
 use Rattle.ledger.specs.declared.Operation.the-variants as O
 use Rattle.ledger.specs.declared.Ledger.{Ledger}
@@ -21,7 +24,7 @@ use Rattle.ledger.specs.declared.Answer.{Answer}
 use Rattle.ledger.specs.declared.Answer.the-variants as A
 use Rattle.ledger.specs.Stamp.{stampOf}
 use Rattle.ledger.specs.Entries.{stopped, runs}
-use Rattle.ledger.specs.Operate.{unrecorded, past, busy, concerned, recordOf, operateOf}
+use Rattle.ledger.specs.Operate.{unrecorded, past, busy, entryOf, concerned, recordOf, operateOf}
 use Rattle.ledger.specs.Says.{answerSays}
 
 -- whether it closes the open stretch
@@ -104,3 +107,13 @@ operateRows l reading op =
 -- an operation's number is that of the first row whose test holds, and 0 where none does
 abbrev pub EveryRefusal : Type 0
 EveryRefusal = (l : Ledger) (reading : Cycles) (op : Operation) → answerSays (operateOf l reading op .answer) .number ≡ inOrder (operateRows l reading op) numberOf ok
+
+-- and so is an entry's, over the books and one record
+abbrev pub entryNumber : Entered → ℤ
+entryNumber (E.Accepted e) = ok
+entryNumber (E.Refused why) = numberOf why
+
+abbrev pub EveryEntry : Type 0
+EveryEntry =
+    (b : Books) (u : ThreadUsage) (reading : Cycles) (op : Operation) →
+    entryNumber (entryOf b u reading op) ≡ inOrder ((busy b op, Already) ∷ (full b u (stampOf (reading .0)) op, Overflow) ∷ []) numberOf ok

@@ -42,9 +42,9 @@ abbrev pub isOf : Open → ℕ → Bool
 isOf none i = false
 isOf (since j from) i = eqb j i
 
--- whether an operation closes the open stretch
+-- whether an operation closes the open stretch; a start while one runs would, were it accepted
 unfoldable pub closesNow : Threads → Operation → Bool
-closesNow t (O.Start i) = false
+closesNow t (O.Start i) = not (isNone (t .stretch))
 closesNow t (O.Switch i) = not (isNone (t .stretch))
 closesNow t O.Stop = not (isNone (t .stretch))
 closesNow t (O.Enable i) = not (t .tracked i) && isOf (t .stretch) i
@@ -87,9 +87,9 @@ operated t op time = record {
   times = cond (begins t op) [] (cond (closesNow t op) (t .last ∷ t .times) (t .times));
 }
 
--- the cycles answered since the last start, summed
+-- the cycles answered since the last start, its own among them, summed
 abbrev pub answeredAfter : Threads → Operation → ℕ → ℕ → ℕ
-answeredAfter t op sum cycles = cond (begins t op) 0 (sum + cycles)
+answeredAfter t op sum cycles = cond (begins t op) cycles (sum + cycles)
 
 -- The ledger, and beside it what an onlooker keeps.
 pub record World : Type 0 where

@@ -23,9 +23,9 @@ unfoldable pub allOf : (ℕ → ℕ → ℕ) → List Stretch → ℕ
 allOf measure [] = 0
 allOf measure (s ∷ rest) = allOf measure rest + measure (s .from) (s .to)
 
--- true cycles
-abbrev pub length : ℕ → ℕ → ℕ
-length from to = to - from
+-- the cycles that truly ran
+abbrev pub trueCycles : ℕ → ℕ → ℕ
+trueCycles from to = to - from
 
 -- cycles between two stamps
 abbrev pub measured : ℕ → ℕ → ℕ

@@ -44,7 +44,8 @@ use Rattle.machine.specs.declared.tasks.Task.{Task}
 use Rattle.machine.specs.Task.{taskOf, askedBy, threadOf}
 use Rattle.machine.specs.Table.{table}
 use Rattle.machine.specs.Step.{enteredStep, announcedStep, effectOf, decodedThread, slotOf, coreOf, stepOf}
-use Rattle.machine.specs.Laws.{Operates, values, announces, closed, answerTo, operatedOn, leftBy, EveryAnswer}
+use Rattle.machine.specs.Laws.{Operates, EveryAnswer}
+use Rattle.machine.specs.Answers.{values, announces, closed, answerTo, operatedOn, leftBy}
 use Rattle.machine.proofs.Accepting.{ready-of}
 use Rattle.machine.proofs.Refusing.{recorded-of, slot-is}
 use Rattle.machine.proofs.Keeping.{operated-timer, stays-ready}

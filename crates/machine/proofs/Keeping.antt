@@ -35,7 +35,8 @@ use Rattle.machine.specs.declared.tasks.Task.the-variants as T
 use Rattle.machine.specs.Task.{taskOf, askedBy}
 use Rattle.machine.specs.Table.{malformed, table}
 use Rattle.machine.specs.Step.{turned, enteredStep, announcedStep, effectOf, taskStep, decodedStep, coreStepOf, slotOf, coreOf, machineOf, steppedFrom, stepOf}
-use Rattle.machine.specs.Laws.{announceRows, lastRows, recordRows, everyRow, Operates, answerTo, timed, EveryRefusal}
+use Rattle.machine.specs.Laws.{announceRows, lastRows, recordRows, everyRow, Operates, EveryRefusal}
+use Rattle.machine.specs.Answers.{answerTo, timed}
 use Rattle.machine.proofs.Refusing.{exactly}
 
 -- a step that is refused for anything but a sum or window changes neither core nor record

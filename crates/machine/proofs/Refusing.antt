@@ -134,7 +134,7 @@ accepted-is (O.Accepted values) e = (values, refl)
 accepted-is (O.Refused other) e = clash (cc)
 
 module _ (m : Machine) (d : Decoded) where
-  pub exactly : Exactly stepOf m d
+  pub exactly : Exactly stepOf (everyRow m d) m d
   unfolding verdictOf
   exactly = record {
     refused = λ why. (

@@ -36,7 +36,8 @@ use Rattle.machine.specs.Task.{taskOf, askedBy, threadOf}
 use Rattle.machine.specs.Table.{malformed, table}
 use Rattle.machine.specs.Accepts.{Runs, Samples, Accepts}
 use Rattle.machine.specs.Step.{enteredStep, announcedStep, effectOf, decodedThread, slotOf, coreOf, steppedFrom, stepOf}
-use Rattle.machine.specs.Laws.{Operates, lastRows, recordRows, operationTells, timed}
+use Rattle.machine.specs.Laws.{Operates, lastRows, recordRows, operationTells}
+use Rattle.machine.specs.Answers.{timed}
 use Rattle.machine.proofs.Accepting as accepting
 use Rattle.machine.proofs.Refusing as refusing
 use Rattle.machine.proofs.Keeping as keeping

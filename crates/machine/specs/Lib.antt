@@ -4,4 +4,5 @@ pub mod Says
 pub mod Step
 pub mod Accepts
 pub mod Shown
+pub mod Answers
 pub mod Laws

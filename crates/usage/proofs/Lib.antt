@@ -1,1 +1,3 @@
 pub mod Outcomes
+pub mod InPlace
+pub mod Looking

@@ -1,4 +1,5 @@
 -- What each answer of a thread record's leaf says: 01's number and values for each of its cases.
+use Prim.Native.Nat.{ℕ}
 use mathlib.Core.Bool.{Bool, true, false}
 use Rattle.error.specs.declared.Refusal.{Refusal}
 use Rattle.error.specs.declared.Refusal.the-variants.{Invalid}
@@ -14,6 +15,7 @@ use Rattle.usage.specs.declared.StartDecision.the-variants.{RecordStart,
 use Rattle.usage.specs.declared.StopDecision.{StopDecision}
 use Rattle.usage.specs.declared.StopDecision.the-variants.{Accumulate, Skip}
 use Rattle.usage.specs.Record.{newIdle}
+use Rattle.usage.specs.Leaves.{enabled, disabled, accumulated}
 
 unfoldable pub changedSays : Changed → Said ThreadUsage
 changedSays (C.Accepted u) = accepted u
@@ -32,6 +34,16 @@ kept before (C.Refused why) = before
 -- code and record together
 unfoldable pub outcomeOf : ThreadUsage → Changed → Outcome
 outcomeOf before answer = record { code = changedSays answer .number; usage = kept before answer }
+
+-- of each change, for whoever keeps the record in place
+abbrev pub enableOutcome : ThreadUsage → Outcome
+enableOutcome u = outcomeOf u (enabled u)
+
+abbrev pub disableOutcome : ThreadUsage → Outcome
+disableOutcome u = outcomeOf u (disabled u)
+
+abbrev pub accumulateOutcome : ThreadUsage → ℕ → Outcome
+accumulateOutcome u cycles = outcomeOf u (accumulated u cycles)
 
 -- a decision as yes or no
 unfoldable pub applies : SysTrackDecision → Bool

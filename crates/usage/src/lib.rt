@@ -2,10 +2,14 @@
 ghost use mathlib.Core.Path.{_≡_};
 ghost use Rattle.usage.specs.Record.{newIdle};
 ghost use Rattle.usage.specs.Leaves.{enabled, disabled, accumulated, averageCycles, elapsedCycles, sysEnableDecide, sysDisableDecide, startDecide, stopDecide};
-ghost use Rattle.usage.specs.Says.{changedSays, changedWhy, outcomeOf, applies, recordsStart, accumulates};
+ghost use Rattle.usage.specs.Says.{changedSays, changedWhy, outcomeOf, enableOutcome, disableOutcome, accumulateOutcome, applies, recordsStart, accumulates};
 use error::Refusal;
 use units::Cycles;
 
+mod lent;
+
+// Laid out for C, which may lend one.
+#[repr(C)]
 pub struct ThreadUsage {
     pub track_usage: bool,
     pub total_cycles: Cycles,
@@ -136,19 +140,19 @@ pub fn accumulated(usage: ThreadUsage, cycles: u32) -> Changed
 }
 
 pub fn enable_outcome(usage: ThreadUsage) -> Outcome
-    ensures { λ r. ⌜ r ≡ outcomeOf usage (enabled usage) ⌝ }
+    ensures { λ r. ⌜ r ≡ enableOutcome usage ⌝ }
 {
     enabled(usage).outcome(usage)
 }
 
 pub fn disable_outcome(usage: ThreadUsage) -> Outcome
-    ensures { λ r. ⌜ r ≡ outcomeOf usage (disabled usage) ⌝ }
+    ensures { λ r. ⌜ r ≡ disableOutcome usage ⌝ }
 {
     disabled(usage).outcome(usage)
 }
 
 pub fn accumulate_outcome(usage: ThreadUsage, cycles: u32) -> Outcome
-    ensures { λ r. ⌜ r ≡ outcomeOf usage (accumulated usage cycles) ⌝ }
+    ensures { λ r. ⌜ r ≡ accumulateOutcome usage cycles ⌝ }
 {
     accumulated(usage, cycles).outcome(usage)
 }

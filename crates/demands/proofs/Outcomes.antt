@@ -156,6 +156,10 @@ use Rattle.lines.proofs.put_input.Reads as lines-put-input
 use Rattle.transcript.proofs.replay.Reads as transcript-replay
 use Rattle.transcript.proofs.put_part.Reads as transcript-put-part
 use Rattle.ledger.proofs.nothing_booked.Reads as ledger-nothing-booked
+use Rattle.trace.proofs.reader.records_from.Reads as trace-records-from
+use Rattle.trace.proofs.reader.bytes_from.Reads as trace-bytes-from
+use Rattle.trace.proofs.reader.item_at.Reads as trace-item-at
+use Rattle.trace.proofs.reader.place_after.Reads as trace-place-after
 use Rattle.demands.specs.Outcome.{OneOutcome, OneOutcomeLent}
 
 -- a contract that says what the answer is, from the arguments, allows that one alone
@@ -518,6 +522,18 @@ tickclock-outcomes = (
   once _,
   once _,
   once _,
+  once _,
+  once _,
+  once _,
+  once _,
+)
+
+pub reader-outcomes :
+    OneOutcome trace-records-from.Post ×
+    OneOutcome trace-bytes-from.Post ×
+    OneOutcome trace-item-at.Post ×
+    OneOutcome trace-place-after.Post
+reader-outcomes = (
   once _,
   once _,
   once _,

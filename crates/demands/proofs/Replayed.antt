@@ -1,13 +1,22 @@
--- The demands' run is the transcript's, and a fair trace's last line is true.
-use mathlib.Core.Path.{refl, sym, ap, _∙_}
-use mathlib.Core.List.{[], _∷_}
+-- The demands' run is the transcript's, a fair trace's last line is true, and a reader hands out the trace's records.
+use Prim.Native.Nat.{ℕ, zero, suc, _+_, _-_, _/_}
+use mathlib.Core.Path.{_≡_, refl, sym, ap, _∙_}
+use mathlib.Core.Bool.{Bool, true, false, cond}
+use mathlib.Core.List.{List, [], _∷_}
+use native.Mathlib.Omega.{arith}
+use lib.ListN.{length}
+use lib.Dec.{ltb}
+use borrow.Author.Tests.{le-ltb, ltb-false, eq-eqb, ne-eqb}
 use Rattle.clock.specs.declared.Timer.{Timer}
 use Rattle.clock.specs.Run as clock
+use Rattle.trace.specs.declared.Decoded.{Decoded}
+use Rattle.trace.specs.Decode.{decodeOf}
+use Rattle.trace.specs.Handing.{recordsLeft, itemAt, placeAfter, handedFrom}
 use Rattle.machine.specs.declared.Machine.{Machine}
 use Rattle.machine.specs.Step.{stepOf}
-use Rattle.transcript.specs.Replay.{machineAfter}
+use Rattle.transcript.specs.Replay.{recordsFrom, machineAfter}
 use Rattle.demands.specs.Trace.{happened, watch, watchAll, setUp}
-use Rattle.demands.specs.Replayed.{SameRun, EndsTrue}
+use Rattle.demands.specs.Replayed.{SameRun, EndsTrue, HandsOut}
 use Rattle.demands.proofs.Counting.{cycles-are}
 use Rattle.demands.proofs.Watching.{seen-machine}
 use Rattle.demands.proofs.Following.{all-true, begin-true}
@@ -30,3 +39,32 @@ ends-true slots period tick some good trace ds begins fair =
     let cycles = ap (λ (t : Timer). t .counter .cycles .0) (same .timer) ∙ cycles-are period (w .ran) (w .atC) (clock.after (same .events) (clock.start period tick)) (same .tracks) in
     let last = demand3 slots period tick some good ds .1 fair .reads in
     rw (begins, left, same .ready, cycles, last) refl
+
+-- nothing is handed out at the end, and elsewhere the record there and then the rest
+handed-end : (n : ℕ) (s : List ℕ) (at : ℕ) → recordsLeft s at ≡ 0 → handedFrom n s at ≡ []
+unfolding handedFrom itemAt
+handed-end zero s at none = refl
+handed-end (suc n) s at none = rw (eq-eqb (recordsLeft s at) 0 none) refl
+
+-- one record fewer is left after a record
+one-fewer : (s : List ℕ) (at n : ℕ) → recordsLeft s at ≡ suc n → recordsLeft s (at + 16) ≡ n
+unfolding recordsLeft
+one-fewer s at n left = by-test (ltb (length s) at) refl left
+  where
+    by-test : (past : Bool) → ltb (length s) at ≡ past → cond past 0 ((length s - at) / 16) ≡ suc n → cond (ltb (length s) (at + 16)) 0 ((length s - (at + 16)) / 16) ≡ n
+    by-test true e q = absurd (omega arith)
+    by-test false e q =
+        let h = ltb-false (length s) at e in
+        rw (le-ltb (length s) (at + 16) (omega arith)) (omega arith)
+
+handed-all : (n more : ℕ) (s : List ℕ) (at : ℕ) → recordsLeft s at ≡ n → handedFrom (n + more) s at ≡ recordsFrom n s at
+unfolding handedFrom itemAt placeAfter recordsFrom
+handed-all zero more s at left = handed-end (zero + more) s at left
+handed-all (suc n) more s at left =
+    let count : suc n + more ≡ suc (n + more) = omega arith in
+    let some = ne-eqb (recordsLeft s at) 0 (λ none. omega arith) in
+    ap (λ (k : ℕ). handedFrom k s at) count ∙ rw some (ap (λ (rest : List Decoded). decodeOf s at ∷ rest) (handed-all n more s (at + 16) (one-fewer s at n left)))
+
+pub hands-out : HandsOut
+unfolding recordsLeft
+hands-out trace more = handed-all (length trace / 16) more trace 0 (rw (le-ltb (length trace) 0 (omega arith)) (omega arith))

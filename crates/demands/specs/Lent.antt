@@ -1,6 +1,8 @@
--- A thread record that is lent: what the contracts of the methods and of their C forms say, and that it is one outcome.
+-- What is proved by hand: a thread record that is lent, in Rattle and from C, and a reader that holds a lent trace. What
+-- their contracts say, and that it is one outcome.
 use lib.IntN.{ℤ}
 use Prim.Native.Nat.{ℕ}
+use mathlib.Core.List.{List}
 use mathlib.Core.Path.{_≡_}
 use mathlib.Core.Bool.{Bool}
 use denote.Ref.{RefT, now}
@@ -8,6 +10,9 @@ use Rattle.error.specs.Numbers.{ok}
 use Rattle.usage.specs.declared.ThreadUsage.{ThreadUsage}
 use Rattle.usage.specs.declared.Outcome.{Outcome}
 use Rattle.usage.specs.Says.{enableOutcome, disableOutcome, accumulateOutcome}
+use Rattle.trace.specs.declared.reader.TraceReader.{TraceReader}
+use Rattle.trace.specs.declared.reader.Item.{Item}
+use Rattle.trace.specs.Handing.{recordsLeft, bytesLeft, itemAt, placeAfter}
 use Rattle.demands.specs.Outcome.{OneOutcome, OneOutcomeLent}
 
 -- the code, and the record behind the reference at exit, are those of the by-value outcome
@@ -31,11 +36,37 @@ Looks thread answer = answer ≡ now thread .«track_usage»
 abbrev pub RefusalLeaves : {More : Type 0} → (ThreadUsage → More → Outcome) → Type 0
 RefusalLeaves {More} outcome = (u : ThreadUsage) (more : More) → (outcome u more .code ≡ ok → ⊥) → outcome u more .usage ≡ u
 
+-- what an argument allows is one answer
+abbrev pub One : {Args Answer : Type 0} → (Args → Answer → Type 0) → Type 0
+One {Args} {Answer} Allows = OneOutcome {Lives = Unit {0}} {Exit = Unit {0}} (λ lives args answer exit. Allows args answer)
+
 pub record LentOutcomes : Type 0 where
   pub enable : OneOutcomeLent now (Changes enables)
   pub disable : OneOutcomeLent now (Changes disables)
   pub accumulate : OneOutcomeLent now (Changes accumulates)
-  pub is-tracked : OneOutcome {Exit = Unit {0}} (λ (lives : Unit {0}) thread answer exit. Looks thread answer)
+  pub is-tracked : One Looks
   pub enable-leaves : RefusalLeaves enables
   pub disable-leaves : RefusalLeaves disables
   pub accumulate-leaves : RefusalLeaves accumulates
+
+-- a reader of the bytes that it is lent; they are only read
+abbrev pub Fresh : RefT (List ℕ) → TraceReader → Type 0
+Fresh trace r = (r .trace ≡ trace) × (r .at ≡ 0)
+
+abbrev pub Moved : TraceReader → TraceReader → Type 0
+Moved reader r = (r .trace ≡ reader .trace) × (r .at ≡ placeAfter (now (reader .trace)) (reader .at))
+
+-- an answer from the bytes held and the place
+abbrev pub Answers : {Answer : Type 0} → (List ℕ → ℕ → Answer) → TraceReader → Answer → Type 0
+Answers answer reader r = r ≡ answer (now (reader .trace)) (reader .at)
+
+abbrev pub First : RefT (List ℕ) → Item → Type 0
+First trace r = r ≡ itemAt (now trace) 0
+
+pub record ReaderOutcomes : Type 0 where
+  pub new : One Fresh
+  pub moved : One Moved
+  pub next : One (Answers itemAt)
+  pub records-left : One (Answers recordsLeft)
+  pub bytes-left : One (Answers bytesLeft)
+  pub first-item : One First

@@ -1,5 +1,5 @@
--- The run that the demands speak of is the one whose lines a trace's text has.
-use Prim.Native.Nat.{ℕ, _%_, _<_}
+-- The records that a reader hands out are the trace's, and the run that the demands speak of is the one that a trace's text tells.
+use Prim.Native.Nat.{ℕ, _+_, _/_, _%_, _<_}
 use mathlib.Core.Path.{_≡_}
 use mathlib.Core.List.{List, _∷_}
 use lib.ListN.{length}
@@ -7,6 +7,7 @@ use Rattle.clock.specs.Holds.{GoodSetup}
 use Rattle.trace.specs.declared.Record.the-variants as K
 use Rattle.trace.specs.declared.Decoded.{Decoded}
 use Rattle.trace.specs.declared.Decoded.the-variants as D
+use Rattle.trace.specs.Handing.{handedFrom}
 use Rattle.machine.specs.Step.{freshMachine, stepOf}
 use Rattle.transcript.specs.Replay.{machineAfter, wholeRecords, lastText, lastOf}
 use Rattle.demands.specs.Trace.{Watched, watchAll, setUp, FairTrace}
@@ -24,3 +25,7 @@ EndsTrue =
     FairTrace stepOf period ds (setUp stepOf slots period tick) →
     let w = watchAll stepOf ds (setUp stepOf slots period tick) in
     lastOf (length trace % 16) (machineAfter (freshMachine slots) (wholeRecords trace)) ≡ lastText (length trace % 16) (w .ran) (w .atC)
+
+-- asked over and over, a reader hands out just the records of the trace, and then the end
+abbrev pub HandsOut : Type 0
+HandsOut = (trace : List ℕ) (more : ℕ) → handedFrom (length trace / 16 + more) trace 0 ≡ wholeRecords trace

@@ -1,2 +1,4 @@
 pub mod Outcomes
+pub mod Handing
+pub mod Holding
 pub mod Bytes

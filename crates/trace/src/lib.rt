@@ -6,6 +6,8 @@ ghost use Rattle.trace.specs.Decode.{wordOf, wordAt, fieldsAt, samples, 
 use clock::Gaps;
 use error::Refusal;
 
+pub mod reader;
+
 // A record's bytes as numbers; `spare` is the two bytes that are always 0.
 struct Fields {
     kind: u8,

@@ -22,7 +22,7 @@ test:
 	sh tests/public.sh
 	sh tests/units.sh
 	sh tests/c/check.sh
-	rt check replay
+	rt check replay replay_long
 	sh tests/replay.sh
 	rt ci
 

@@ -1,9 +1,11 @@
 #!/bin/sh
-# Runs the program replay, which `rt check replay` builds, and holds what it writes to document 01.
+# Runs the programs replay and replay_long, which `rt check replay replay_long` builds, and holds what they write to document 01.
 set -eu
 cd "$(dirname "$0")/.."
 root=$(pwd)
-[ -x target/bin/replay ] || { echo 'replay: there is no target/bin/replay; rt check replay builds it'; exit 1; }
+for program in replay replay_long; do
+    [ -x "target/bin/$program" ] || { echo "replay: there is no target/bin/$program; rt check $program builds it"; exit 1; }
+done
 room=$(mktemp -d)
 trap 'rm -rf "$room"' EXIT
 # What is told goes past the redirections of single checks.
@@ -211,6 +213,40 @@ refusal 'a pipe that nobody reads' 'standard output: Broken pipe'
 zeros 64000 > "$room/trace"
 (trap '' XFSZ; ulimit -f 1; sh tools/run.sh replay "$room/trace" 2> "$room/said" > "$room/block" || true)
 refusal 'a file that may not grow' 'standard output: File too large'
+
+# --- replay_long: the same lines for a trace of any size, from standard input ---
+# long: the program on standard input.
+long() {
+    status=0
+    sh tools/run.sh replay_long > "$room/out" 2> "$room/said" || status=$?
+    echo "$status" > "$room/status"
+}
+long < "$printed"
+lines 'replay_long on the printed case' "$golden"
+long < /dev/null
+lines 'replay_long on an empty standard input' "$room/empty"
+for n in 63999 64000 64001 128000 1000000; do
+    zeros "$n" > "$room/trace"
+    {
+        numbered "$((n / 16))" -2
+        [ "$((n % 16))" = 0 ] || echo 'tail -22'
+        echo 'end 0 0'
+    } > "$room/want-lines"
+    cat "$room/trace" | long
+    lines "replay_long on $n bytes" "$room/want-lines"
+done
+# The clock goes on over the end of a part: 4000 records, then one more.
+awk 'BEGIN { print "setup 10 4"; for (i = 1; i < 4001; i++) print "run 4294967295" }' | sh tools/trace.sh > "$room/trace"
+{ numbered 4001 0; echo 'end 17179869180000 0'; } > "$room/want-lines"
+long < "$room/trace"
+lines 'replay_long over the end of a part' "$room/want-lines"
+long < "$room"
+refusal 'replay_long on a directory' 'standard input: Is a directory'
+long <&-
+refusal 'replay_long with standard input closed' 'standard input: Bad file descriptor'
+: > "$room/out"
+sh tools/run.sh replay_long < "$printed" 2> "$room/said" > /dev/full || true
+refusal 'replay_long to a full device' 'standard output: No space left on device'
 
 # --- what tools/replay.sh ends with, since the program can't choose its status ---
 ends 'status of the printed case' 0 "$printed" > "$room/out"

@@ -24,9 +24,21 @@ test:
 	sh tests/c/check.sh
 	rt check replay replay_long
 	sh tests/replay.sh
+	sh tests/reference.sh
 	rt ci
+
+# Goes on comparing with the reference until so many records were compared; another SEED makes other traces.
+N = 1000000
+SEED = 100
+fuzz:
+	rt check replay replay_long
+	sh tests/reference.sh "$(N)" "$(SEED)"
+
+# Times a million records against the reference, and counts instructions.
+bench:
+	sh tools/bench.sh
 
 clean:
 	rm -rf target
 
-.PHONY: all cases replay test clean
+.PHONY: all cases replay test fuzz bench clean

@@ -17,6 +17,14 @@ replay:
 	@rt check replay >&2
 	@sh tools/replay.sh "$(TRACE)"
 
+# The archive for Cortex-M: target/firmware/*/libtickclock.a, with the kit alone.
+firmware:
+	sh tools/firmware.sh
+
+# Tries those archives, and the driver in firmware/example, on QEMU's boards.
+qemu:
+	sh tests/qemu.sh
+
 test:
 	rt fmt --check
 	sh tests/public.sh
@@ -41,4 +49,4 @@ bench:
 clean:
 	rm -rf target
 
-.PHONY: all cases replay test fuzz bench clean
+.PHONY: all cases replay firmware qemu test fuzz bench clean

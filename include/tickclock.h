@@ -1,7 +1,8 @@
 /*
  * tickclock.h: the arithmetic of a tick clock over a timer that counts down,
- * and of a thread's usage record, for C firmware (libtickclock.a; x86-64 so
- * far, for tests on a host).
+ * and of a thread's usage record, for C firmware. Link with libtickclock.a,
+ * which is made for Cortex-M (make firmware) and for x86-64 (make).
+ * firmware/example has a driver for SysTick.
  *
  * There is no state, no allocation and no lock. The answer depends on the
  * arguments alone, so each function is safe from interrupt context and from

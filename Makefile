@@ -40,7 +40,7 @@ N = 1000000
 SEED = 100
 fuzz:
 	rt check replay replay_long
-	sh tests/reference.sh "$(N)" "$(SEED)"
+	sh tests/reference.sh "$(N)" "$(SEED)" 10
 
 # Times a million records against the reference, and counts instructions.
 bench:

@@ -1,9 +1,10 @@
 #!/bin/sh
-# reference.sh [RECORDS [SEED]]: holds replay and replay_long to the Rust program in reference/, byte for byte, on made-up traces.
+# reference.sh [RECORDS [SEED [SCALE]]]: holds replay and replay_long to the Rust program in reference/, byte for byte, on made-up traces.
 # A round is 2000 traces of one seed; rounds go on, each with the next seed, until so many records were compared.
+# With a SCALE of 10 the usual trace is ten times as long, which costs little more.
 set -eu
 cd "$(dirname "$0")/.."
-records=${1:-1} seed=${2:-1}
+records=${1:-1} seed=${2:-1} scale=${3:-1}
 command -v cargo > /dev/null || { echo 'reference: skipped, since there is no cargo here'; exit 0; }
 for program in replay replay_long; do
     [ -x "target/bin/$program" ] || { echo "reference: there is no target/bin/$program; rt check $program builds it"; exit 1; }
@@ -26,7 +27,7 @@ fi
 differ() {
     mkdir -p target/differ
     cp "$1" target/differ/
-    echo "reference: seed $seed, trace $(basename "$1"), which is kept in target/differ: the first line that differs,"
+    echo "reference: seed $seed, scale $scale, trace $(basename "$1"), which is kept in target/differ: the first line that differs,"
     echo 'reference: < of replay, > of the reference'
     diff "$room/ours" "$room/theirs" | sed -n '1,4p'
     exit 1
@@ -35,7 +36,7 @@ differ() {
 traces=0 compared=0
 while [ "$compared" -lt "$records" ]; do
     rm -rf "$room/round"
-    "$made/traces" "$seed" 2000 "$room/round"
+    "$made/traces" "$seed" 2000 "$room/round" "$scale"
     for trace in "$room"/round/*; do
         $before target/bin/replay "$trace" > "$room/ours"
         "$made/reference" "$trace" > "$room/theirs"

@@ -8,7 +8,7 @@ use std::process::ExitCode;
 
 use reference::generate::{million, trace};
 
-const USAGE: &str = "usage: traces SEED COUNT DIR | traces --one-million FILE [SEED]";
+const USAGE: &str = "usage: traces SEED COUNT DIR [SCALE] | traces --one-million FILE [SEED]";
 
 fn main() -> ExitCode {
     let arguments: Vec<String> = env::args().skip(1).collect();
@@ -26,17 +26,21 @@ fn write(arguments: &[&str]) -> Result<(), Box<dyn Error>> {
     match *arguments {
         ["--one-million", path] => fs::write(path, million(1))?,
         ["--one-million", path, seed] => fs::write(path, million(seed.parse()?))?,
-        [seed, count, directory] => many(seed.parse()?, count.parse()?, Path::new(directory))?,
+        [seed, count, directory] => many(seed.parse()?, count.parse()?, directory, 1)?,
+        [seed, count, directory, scale] => {
+            many(seed.parse()?, count.parse()?, directory, scale.parse()?)?
+        }
         _ => return Err(USAGE.into()),
     }
     Ok(())
 }
 
-fn many(seed: u64, count: u64, directory: &Path) -> std::io::Result<()> {
+fn many(seed: u64, count: u64, directory: &str, scale: u32) -> std::io::Result<()> {
+    let directory = Path::new(directory);
     fs::create_dir_all(directory)?;
     for number in 0..count {
         let path = directory.join(format!("{number:05}.trace"));
-        fs::write(path, trace(seed, number))?;
+        fs::write(path, trace(seed, number, scale))?;
     }
     Ok(())
 }

@@ -5,6 +5,8 @@ use super::numbers;
 use super::pen::{Kind, Pen, NO_GAPS};
 use super::random::Random;
 use crate::clock::Gaps;
+use crate::record::SIZE;
+use crate::replay::LIMIT;
 
 /// How the gaps of samples and the runs between them are chosen.
 #[derive(Clone, Copy)]
@@ -27,14 +29,16 @@ struct Mixed<'a> {
     room: u32,
 }
 
-/// From 20 to 400 records, now and then fewer.
-pub fn usual(random: &mut Random) -> Vec<u8> {
+/// From 20 to 400 records, now and then fewer, and `scale` times as many as far
+/// as the limit lets.
+pub fn usual(random: &mut Random, scale: u32) -> Vec<u8> {
     let length = match random.below(10) {
         0 => 1 + random.below(20),
         1..=5 => 20 + random.below(80),
         _ => 20 + random.below(381),
     };
-    of_length(random, length as usize)
+    let most = LIMIT / SIZE;
+    of_length(random, most.min(length as usize * scale as usize))
 }
 
 pub fn of_length(random: &mut Random, records: usize) -> Vec<u8> {

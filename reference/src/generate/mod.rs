@@ -15,9 +15,9 @@ use random::Random;
 
 pub use million::million;
 
-/// The trace with this number. It depends on nothing else, so that any one
-/// trace of a large set can be made again alone.
-pub fn trace(seed: u64, number: u64) -> Vec<u8> {
+/// The trace with this number, the usual ones `scale` times as long. It depends
+/// on nothing else, so that any one trace of a large set can be made again alone.
+pub fn trace(seed: u64, number: u64, scale: u32) -> Vec<u8> {
     let random = &mut Random::of(seed, number);
     // A cycle of 100 gives every family its share even in small sets.
     match number % 100 {
@@ -30,11 +30,11 @@ pub fn trace(seed: u64, number: u64) -> Vec<u8> {
         7..=10 => long_way::fill(random),
         11..=14 => long_way::multiples(random),
         15..=20 => long_way::falling(random),
-        21..=24 => damage::displaced(mixed::usual(random), random),
-        25..=28 => damage::flipped(mixed::usual(random), random),
-        29..=38 => damage::with_tail(mixed::usual(random), random),
+        21..=24 => damage::displaced(mixed::usual(random, scale), random),
+        25..=28 => damage::flipped(mixed::usual(random, scale), random),
+        29..=38 => damage::with_tail(mixed::usual(random, scale), random),
         39 => of_limit_size(random, number / 100),
-        _ => mixed::usual(random),
+        _ => mixed::usual(random, scale),
     }
 }
 

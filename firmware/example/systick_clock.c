@@ -1,4 +1,4 @@
-/* systick_clock.c: a tick clock over SysTick, by the functions of tickclock.h. */
+/* systick_clock.c: a tick clock over SysTick, by the library of tickclock.h. */
 #include "systick_clock.h"
 
 #include <stddef.h>

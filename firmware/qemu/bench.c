@@ -1,4 +1,4 @@
-/* bench.c: lines of text, and numbers drawn from a seed. */
+/* bench.c: lines of text, numbers drawn from a seed. */
 #include "bench.h"
 
 static char line[256];
@@ -53,7 +53,7 @@ uint32_t next(void)
 {
     static uint32_t state;
 
-    /* A board's variables start at 0 (board.ld), which the shifts never leave. */
+    /* A board's variables start at 0 (board.ld), and 0 would stay 0. */
     if (state == 0) {
         state = 0x2545f491;
     }

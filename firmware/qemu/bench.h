@@ -1,4 +1,4 @@
-/* bench.h: what the benches share: lines of text, and numbers drawn from a seed. */
+/* bench.h: what the benches share: lines of text, numbers drawn from a seed. */
 #ifndef BENCH_H
 #define BENCH_H
 

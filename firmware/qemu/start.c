@@ -1,4 +1,4 @@
-/* start.c: start-up for QEMU's boards; text and the end go out by semihosting. */
+/* start.c: start-up for QEMU's boards, with semihosting for text and the end. */
 #include "bench.h"
 
 enum { SYS_WRITE0 = 0x04, SYS_EXIT = 0x18 };

@@ -9,11 +9,11 @@
 #include "bench.h"
 #include "systick_clock.h"
 
-#define SAMPLES 3000
+#define SAMPLES 6000
 #define SWITCHES 500
 
 /* A tick that no period is a multiple of. */
-#define TICK 7
+#define TICK 11
 
 /* The timers are read one after the other, and count whole cycles. */
 #define SLACK 4
@@ -170,7 +170,7 @@ static bool can_announce(void)
     return clock.load / 8 > cost;
 }
 
-/* Finds the cost, with some to spare: that of a switch, which is a sample and more. */
+/* Finds the cost: that of a switch, which is a sample and more, and a margin. */
 static void measure(uint32_t load)
 {
     threads[0] = (struct thread_usage){ true, 0, 1 };
@@ -294,19 +294,17 @@ static void count_wraps(void)
     uint64_t now0 = 0;
     uint64_t now = 0;
     int32_t number = TICKCLOCK_OK;
-    uint32_t wraps = 0;
 
     start(load);
     sleep(load / 2);
     begun = dual();
     const uint32_t dual0 = begun;
     check(systick_clock_sample(&clock, &now0) == TICKCLOCK_OK);
-    while (number == TICKCLOCK_OK && wraps < 300) {
+    for (int i = 0; i < 300 && number == TICKCLOCK_OK; i++) {
         sleep(load - cost);
         number = systick_clock_sample(&clock, &now);
-        wraps = clock.overflow_cyc / load;
     }
-    check(number == TICKCLOCK_EAGAIN && wraps == 255);
+    check(number == TICKCLOCK_EAGAIN && clock.overflow_cyc == 255 * load);
     announce(0, now);
     begun = dual();
     check(systick_clock_sample(&clock, &now) == TICKCLOCK_OK);

@@ -9,7 +9,7 @@
 
 #define ROUNDS 2000
 
-/* A lent record's fields lie where the archive's code has them, or this does not compile. */
+/* The fields of a lent record lie where the archive's code has them. */
 #define AT(field, place) (offsetof(struct thread_usage, field) == (place))
 typedef char same_layout[AT(track_usage, 0) && AT(total_cycles, 8) &&
                                  AT(num_windows, 16) &&

@@ -1,7 +1,7 @@
 #!/bin/sh
 # native.sh PROGRAM FILE: writes to FILE a proved program as this machine's own code.
 # On x86-64 that is what the kit makes. Elsewhere the program's LLVM module, kept while it is proved again, is compiled
-# for this machine: the proof ends at the module, and what comes after it is as well tested as here, and no better.
+# for this machine. The proof ends at the module: that it means the same here is only tested.
 set -eu
 cd "$(dirname "$0")/.."
 program=$1 file=$2

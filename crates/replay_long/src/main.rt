@@ -4,7 +4,7 @@ mod output;
 // A part is as long as the longest trace of document 01, whose limit is a matter of `replay` alone.
 const PART: usize = transcript::MOST_BYTES;
 
-// More than a day's worth of parts: a program has to end.
+// 64 gigabytes of trace: a program has to end.
 const MOST_PARTS: u32 = 1000000;
 
 fn main() {

@@ -1,14 +1,15 @@
--- The digits of a number by its last digit, and how many they are.
+-- The digits of a number by its last one, two or four, and how many they are.
 use Prim.Native.Nat.{ℕ, zero, suc, _+_, _/_, _%_, _^_, _≤_, _<_}
 use mathlib.Core.Path.{_≡_, refl, sym, ap, _∙_}
 use mathlib.Core.Bool.{Bool, true, false, cond}
-use mathlib.Core.List.{List, [], _∷_, _++_}
+use mathlib.Core.List.{List, [], _∷_, _++_, append-assoc}
 use native.Mathlib.Omega.{arith}
 use native.Mathlib.Nat.{pow-suc}
 use lib.ListN.{length, length-append}
 use lib.Dec.{ltb}
 use borrow.Author.Tests.{lt-ltb, le-ltb, ltb-true, ltb-false}
 use Rattle.lines.specs.Text.{digitsOf, decimal}
+use Rattle.lines.specs.Writing.{two, four}
 
 -- any limit that is not below the number gives all its digits
 enough : (most more n : ℕ) → n ≤ most → n ≤ more → digitsOf most n ≡ digitsOf more n
@@ -38,39 +39,54 @@ more (suc m) h =
     simp (le-ltb (suc m) 10 h)
     (ap (λ (t : List ℕ). t ++ ((48 + suc m % 10) ∷ [])) (enough m (suc m / 10) (suc m / 10) (omega arith) (omega arith)))
 
+pub two-digits : (n : ℕ) → 10 ≤ n → n < 100 → decimal n ≡ two n
+two-digits n h k = more n h ∙ ap (λ (t : List ℕ). t ++ ((48 + n % 10) ∷ [])) (one (n / 10) (omega arith))
+
+-- the last two digits apart
+by-two : (n : ℕ) → 100 ≤ n → decimal n ≡ decimal (n / 100) ++ two (n % 100)
+by-two n h =
+    let high : n / 10 / 10 ≡ n / 100 = omega arith in
+    let tens : n / 10 % 10 ≡ n % 100 / 10 = omega arith in
+    let ones : n % 10 ≡ n % 100 % 10 = omega arith in
+    more n (omega arith) ∙
+    ap (λ (t : List ℕ). t ++ ((48 + n % 10) ∷ [])) (more (n / 10) (omega arith)) ∙
+    append-assoc (decimal (n / 10 / 10)) ((48 + n / 10 % 10) ∷ []) ((48 + n % 10) ∷ []) ∙
+    rw (high, tens, ones)
+
+pub three-digits : (n : ℕ) → 100 ≤ n → n < 1000 → decimal n ≡ (48 + n / 100) ∷ two (n % 100)
+three-digits n h k = by-two n h ∙ ap (λ (t : List ℕ). t ++ two (n % 100)) (one (n / 100) (omega arith))
+
+pub four-digits : (n : ℕ) → 1000 ≤ n → n < 10000 → decimal n ≡ four n
+four-digits n h k = by-two n (omega arith) ∙ ap (λ (t : List ℕ). t ++ two (n % 100)) (two-digits (n / 100) (omega arith) (omega arith))
+
+-- the last four digits apart
+pub by-four : (n : ℕ) → 10000 ≤ n → decimal n ≡ decimal (n / 10000) ++ four (n % 10000)
+by-four n h =
+    let high : n / 100 / 100 ≡ n / 10000 = omega arith in
+    let hundreds : n / 100 % 100 ≡ n % 10000 / 100 = omega arith in
+    let ones : n % 100 ≡ n % 10000 % 100 = omega arith in
+    by-two n (omega arith) ∙
+    ap (λ (t : List ℕ). t ++ two (n % 100)) (by-two (n / 100) (omega arith)) ∙
+    append-assoc (decimal (n / 100 / 100)) (two (n / 100 % 100)) (two (n % 100)) ∙
+    rw (high, hundreds, ones)
+
 pub size-one : (n : ℕ) → n < 10 → length (decimal n) ≡ 1
 size-one n h = ap length (one n h)
 
-pub size-more : (n : ℕ) → 10 ≤ n → length (decimal n) ≡ length (decimal (n / 10)) + 1
-size-more n h = ap length (more n h) ∙ length-append (decimal (n / 10)) ((48 + n % 10) ∷ [])
-
 pub size-two : (n : ℕ) → 10 ≤ n → n < 100 → length (decimal n) ≡ 2
-size-two n h k = size-more n h ∙ ap (λ (m : ℕ). m + 1) (size-one (n / 10) (omega arith))
+size-two n h k = ap length (two-digits n h k)
 
 pub size-three : (n : ℕ) → 100 ≤ n → n < 1000 → length (decimal n) ≡ 3
-size-three n h k = size-more n (omega arith) ∙ ap (λ (m : ℕ). m + 1) (size-two (n / 10) (omega arith) (omega arith))
+size-three n h k = ap length (three-digits n h k)
 
 pub size-four : (n : ℕ) → 1000 ≤ n → n < 10000 → length (decimal n) ≡ 4
-size-four n h k = size-more n (omega arith) ∙ ap (λ (m : ℕ). m + 1) (size-three (n / 10) (omega arith) (omega arith))
+size-four n h k = ap length (four-digits n h k)
 
--- four digits at once
+size-more : (n : ℕ) → 10 ≤ n → length (decimal n) ≡ length (decimal (n / 10)) + 1
+size-more n h = ap length (more n h) ∙ length-append (decimal (n / 10)) ((48 + n % 10) ∷ [])
+
 pub size-by-four : (n : ℕ) → 10000 ≤ n → length (decimal n) ≡ length (decimal (n / 10000)) + 4
-size-by-four n h =
-    let a = size-more n (omega arith) in
-    let b = size-more (n / 10) (omega arith) in
-    let c = size-more (n / 10 / 10) (omega arith) in
-    let d = size-more (n / 10 / 10 / 10) (omega arith) in
-    let e : n / 10 / 10 / 10 / 10 ≡ n / 10000 = omega arith in
-    let f = ap (λ (m : ℕ). length (decimal m)) e in
-    omega arith
-
--- at least one digit
-pub size-some : (n : ℕ) → 1 ≤ length (decimal n)
-size-some n = by-test (ltb n 10) refl
-  where
-    by-test : (b : Bool) → ltb n 10 ≡ b → 1 ≤ length (decimal n)
-    by-test true e = let h = size-one n (ltb-true n 10 e) in omega arith
-    by-test false e = let h = size-more n (ltb-false n 10 e) in omega arith
+size-by-four n h = ap length (by-four n h) ∙ length-append (decimal (n / 10000)) (four (n % 10000))
 
 -- a number below 10 ^ k has at most k digits
 pub size-most : (k n : ℕ) → n < 10 ^ suc k → length (decimal n) ≤ suc k

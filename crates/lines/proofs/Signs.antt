@@ -1,5 +1,5 @@
 -- A code of 32 bits: wider, turned round where it is below 0, and its text by the test.
-use Prim.Native.Nat.{_-_, ℕ, suc, _+_}
+use Prim.Native.Nat.{ℕ, suc, _+_}
 use mathlib.Core.Path.{_≡_, refl, ap, _∙_}
 use mathlib.Core.Bool.{true, false}
 use mathlib.Core.List.{List, [], _∷_, _++_}
@@ -85,14 +85,13 @@ size-plain is text counted = rw (text, ← is) counted
 
 -- after the sign
 module _ {out : List ℕ} {at n k : ℕ} {s : List ℕ} (is : n ≡ k) (text : s ≡ 45 ∷ decimal k) where
-  pub room-after : {size more : ℕ} → Room out at size more s → Room (set out at 45) (at + 1) (size - 1) more (decimal n)
+  pub room-after : Room out at s → Room (set out at 45) (at + 1) (decimal n)
   room-after room =
       let long = ap length text in
       let same = ap (λ (m : ℕ). length (decimal m)) is in
-      let counted = room .counted in
       let enough = room .room in
       let kept = length-set out at 45 in
-      record { counted = omega arith; room = omega arith }
+      record { room = omega arith }
 
   pub after-sign : {now : List ℕ} {end : ℕ} (b : ℕ) → Put (set out at 45) now (at + 1) end (decimal n ++ b ∷ []) → Put out now at end (s ++ b ∷ [])
   after-sign b put = rw (text, ← is) (record {
@@ -102,7 +101,7 @@ module _ {out : List ℕ} {at n k : ℕ} {s : List ℕ} (is : n ≡ k) (text : s
 
 -- and with no sign
 module _ {out : List ℕ} {at n k : ℕ} {s : List ℕ} (is : n ≡ k) (text : s ≡ decimal k) where
-  pub room-plain : {size more : ℕ} → Room out at size more s → Room out at size more (decimal n)
+  pub room-plain : Room out at s → Room out at (decimal n)
   room-plain room = rw (is, ← text) room
 
   pub plain : {now : List ℕ} {end : ℕ} (b : ℕ) → Put out now at end (decimal n ++ b ∷ []) → Put out now at end (s ++ b ∷ [])

@@ -1,73 +1,67 @@
 -- A step's line from its four parts.
-use Prim.Native.Nat.{ℕ, _+_, _≤_}
-use mathlib.Core.Path.{_≡_}
+use Prim.Native.Nat.{ℕ, _+_, _^_, _≤_, _<_}
+use mathlib.Core.Path.{_≡_, sym}
 use mathlib.Core.Bool.{Bool, false}
 use mathlib.Core.List.{List, [], _∷_, _++_, append-assoc}
 use native.Mathlib.Omega.{arith}
 use lib.ListN.{length}
 use lib.Dec.{ltb}
 use lib.IntN.{ℤ}
+use lib.Signed.{mag}
+use borrow.Author.Tests.{le-ltb}
 use Rattle.lines.specs.declared.Written.the-variants as W
-use Rattle.lines.specs.Text.{decimal, signed, lineText, writtenOf, putOf}
+use Rattle.lines.specs.Text.{decimal, signed, lineText, writtenOf, putOf, lineRoom}
 use Rattle.lines.specs.Writing.{Room, Put}
 use Rattle.lines.proofs.Stores.{then-byte}
-use Rattle.lines.proofs.Sizes.{line-size}
+use Rattle.lines.proofs.Sizes.{line-size, line-room}
 use Rattle.lines.proofs.Whole.{whole}
-use Rattle.lines.proofs.Parts.{room-in, spent, there}
+use Rattle.lines.proofs.Parts.{spent, there}
 
--- its parts counted, and their room found
-pub record Line (l : List ℕ) (at n : ℕ) (z : ℤ) (x y a b c d : ℕ) : Type 0 where
-  pub number : a ≡ length (decimal n)
-  pub code : b ≡ length (signed z)
-  pub first : c ≡ length (decimal x)
-  pub second : d ≡ length (decimal y)
-  pub room : at + (a + 1 + (b + 1 + (c + 1 + (d + 1 + 0)))) ≤ length l
+-- where the longest line has room, any has
+pub any-line : (room at n : ℕ) (z : ℤ) (x y : ℕ) {lacks : Bool} → n < 2 ^ 64 → mag z < 2 ^ 31 → x < 2 ^ 64 → y < 2 ^ 64 → lacks ≡ ltb room (at + lineRoom) → lacks ≡ false → false ≡ ltb room (at + length (lineText n z x y))
+any-line room at n z x y hn hz hx hy asked e =
+    let h = there at lineRoom room asked e in
+    let most = line-room n z x y hn hz hx hy in
+    sym (le-ltb room (at + length (lineText n z x y)) (omega arith))
 
-pub line-counted : (l : List ℕ) (at n : ℕ) (z : ℤ) (x y : ℕ) {a b c d : ℕ} {lacks : Bool} →
-    a ≡ length (decimal n) → b ≡ length (signed z) → c ≡ length (decimal x) → d ≡ length (decimal y) →
-    lacks ≡ ltb (length l) (at + (a + b + c + d + 4)) → lacks ≡ false → Line l at n z x y a b c d
-line-counted l at n z x y {a} {b} {c} {d} p q r s asked e = record {
-  number = p;
-  code = q;
-  first = r;
-  second = s;
-  room = let h = there at (a + b + c + d + 4) (length l) asked e in omega arith;
-}
-
+-- its parts counted
 pub line-total : (n : ℕ) (z code : ℤ) (x y : ℕ) {a b c d : ℕ} → z ≡ code →
     a ≡ length (decimal n) → b ≡ length (signed z) → c ≡ length (decimal x) → d ≡ length (decimal y) →
     a + b + c + d + 4 ≡ length (lineText n code x y)
 line-total n z code x y is p q r s = rw (← is) (omega (arith, line-size n z x y))
 
-module _ {l : List ℕ} {at n : ℕ} {z : ℤ} {x y a b c d : ℕ} (counted : Line l at n z x y a b c d) where
-  pub for-number : Room l at a 1 (decimal n)
-  for-number = room-in _ (counted .number) (counted .room)
+-- the line has room
+pub record Line (l : List ℕ) (at n : ℕ) (z : ℤ) (x y : ℕ) : Type 0 where
+  pub room : at + length (lineText n z x y) ≤ length l
+
+module _ {l : List ℕ} {at n : ℕ} {z : ℤ} {x y : ℕ} (line : Line l at n z x y) where
+  in-turn : at + (length (decimal n) + 1 + (length (signed z) + 1 + (length (decimal x) + 1 + (length (decimal y) + 1)))) ≤ length l
+  in-turn = let h = line .room in omega (arith, line-size n z x y)
+
+  pub for-number : Room l at (decimal n)
+  for-number = record { room = omega (arith, in-turn) }
 
   module _ {l₁ : List ℕ} {e₁ : ℕ} (p : Put l l₁ at e₁ (decimal n ++ 32 ∷ [])) where
-    left-1 : e₁ + (b + 1 + (c + 1 + (d + 1 + 0))) ≤ length l₁
-    left-1 = spent (decimal n) 32 _ (counted .number) (counted .room) p
+    left-1 : e₁ + (length (signed z) + 1 + (length (decimal x) + 1 + (length (decimal y) + 1))) ≤ length l₁
+    left-1 = spent (decimal n) 32 _ in-turn p
 
-    pub for-code : Room l₁ e₁ b 1 (signed z)
-    for-code = room-in _ (counted .code) left-1
+    pub for-code : Room l₁ e₁ (signed z)
+    for-code = record { room = omega (arith, left-1) }
 
     module _ {l₂ : List ℕ} {e₂ : ℕ} (q : Put l₁ l₂ e₁ e₂ (signed z ++ 32 ∷ [])) where
-      left-2 : e₂ + (c + 1 + (d + 1 + 0)) ≤ length l₂
-      left-2 = spent (signed z) 32 _ (counted .code) left-1 q
+      left-2 : e₂ + (length (decimal x) + 1 + (length (decimal y) + 1)) ≤ length l₂
+      left-2 = spent (signed z) 32 _ left-1 q
 
-      pub for-first : Room l₂ e₂ c 1 (decimal x)
-      for-first = room-in _ (counted .first) left-2
+      pub for-first : Room l₂ e₂ (decimal x)
+      for-first = record { room = omega (arith, left-2) }
 
       module _ {l₃ : List ℕ} {e₃ : ℕ} (r : Put l₂ l₃ e₂ e₃ (decimal x ++ 32 ∷ [])) where
-        left-3 : e₃ + (d + 1 + 0) ≤ length l₃
-        left-3 = spent (decimal x) 32 _ (counted .first) left-2 r
-
-        pub for-second : Room l₃ e₃ d 1 (decimal y)
-        for-second = room-in _ (counted .second) left-3
+        pub for-second : Room l₃ e₃ (decimal y)
+        for-second = record { room = omega (arith, spent (decimal x) 32 _ left-2 r) }
 
         pub whole-line : {l₄ : List ℕ} {e₄ : ℕ} {code : ℤ} → z ≡ code → Put l₃ l₄ e₃ e₄ (decimal y ++ 10 ∷ []) → (W.Accepted e₄ ≡ writtenOf l at (lineText n code x y)) × (l₄ ≡ putOf l at (lineText n code x y))
         unfolding lineText
         whole-line is s =
             rw (← is)
-            (whole l at (lineText n z x y)
-            (let h = counted .room in let i = counted .number in let j = counted .code in let k = counted .first in let m = counted .second in omega (arith, line-size n z x y))
+            (whole l at (lineText n z x y) (line .room)
             (simp append-assoc (then-byte (decimal n) 32 _ p (then-byte (signed z) 32 _ q (then-byte (decimal x) 32 _ r s)))))

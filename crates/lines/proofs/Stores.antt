@@ -16,12 +16,22 @@ in-parts l at (x ∷ s) t =
     in-parts (set l at x) (suc at) s t ∙
     ap (λ (k : ℕ). sets (sets (set l at x) (suc at) s) k t) (suc-add at (length s) ∙ sym (add-suc at (length s)))
 
+pub runs : (l : List ℕ) {between now : List ℕ} (at : ℕ) (s t : List ℕ) → between ≡ sets l at s → now ≡ sets between (at + length s) t → now ≡ sets l at (s ++ t)
+runs l at s t p q = q ∙ ap (λ (m : List ℕ). sets m (at + length s) t) p ∙ sym (in-parts l at s t)
+
 -- a store behind a run may come before it
-pub sooner : (l : List ℕ) (at : ℕ) (s : List ℕ) (k b : ℕ) → at + length s ≤ k → set (sets l at s) k b ≡ sets (set l k b) at s
+sooner : (l : List ℕ) (at : ℕ) (s : List ℕ) (k b : ℕ) → at + length s ≤ k → set (sets l at s) k b ≡ sets (set l k b) at s
 sooner l at [] k b h = refl
 sooner l at (x ∷ s) k b h =
     sooner (set l at x) (suc at) s k b (omega arith) ∙
     ap (λ (m : List ℕ). sets m (suc at) s) (set-comm l at k x b (λ e. omega arith))
+
+-- and so may a run
+pub run-sooner : (l : List ℕ) (at : ℕ) (s : List ℕ) (k : ℕ) (t : List ℕ) → at + length s ≤ k → sets (sets l at s) k t ≡ sets (sets l k t) at s
+run-sooner l at s k [] h = refl
+run-sooner l at s k (b ∷ t) h =
+    ap (λ (m : List ℕ). sets m (suc k) t) (sooner l at s k b h) ∙
+    run-sooner (set l k b) at s (suc k) t (omega arith)
 
 -- two texts, one after the other
 pub then : {before between after : List ℕ} {at next end : ℕ} (s t : List ℕ) → Put before between at next s → Put between after next end t → Put before after at end (s ++ t)
@@ -34,12 +44,13 @@ then {before} {between} {after} {at} {next} {end} s t p q = record {
 pub then-byte : {before between after : List ℕ} {at next end : ℕ} (s : List ℕ) (b : ℕ) (t : List ℕ) → Put before between at next (s ++ b ∷ []) → Put between after next end t → Put before after at end (s ++ b ∷ t)
 then-byte s b t p q = rw (append-assoc s (b ∷ []) t) at (then (s ++ b ∷ []) t p q)
 
+-- a text that is spelt out
+pub spelt : {before now : List ℕ} {at : ℕ} {text bytes : List ℕ} → text ≡ bytes → now ≡ sets before at bytes → Put before now at (at + length bytes) text
+spelt is e = rw is (record { next = refl; bytes = e })
+
 -- a text, and one byte after it
-pub and-byte : {before between : List ℕ} {at size : ℕ} (text : List ℕ) (b : ℕ) → size ≡ length text → between ≡ sets before at text → Put before (set between (at + size) b) at (at + size + 1) (text ++ b ∷ [])
-and-byte {before} {between} {at} {size} text b counted e = record {
-  next = omega (arith, length-append text (b ∷ []));
-  bytes = rw (e, counted) (sym (in-parts before at text (b ∷ [])));
-}
+pub and-byte : {before between : List ℕ} {at end : ℕ} (text : List ℕ) (b : ℕ) → Put before between at end text → Put before (set between end b) at (end + 1) (text ++ b ∷ [])
+and-byte text b put = then text (b ∷ []) put (spelt refl refl)
 
 -- where it ends
 pub byte-end : {before now : List ℕ} {at end : ℕ} (text : List ℕ) (b : ℕ) → Put before now at end (text ++ b ∷ []) → end ≡ at + length text + 1

@@ -32,16 +32,15 @@ pub(crate) fn code_places(code: i32) -> usize
 }
 
 // A code and the byte after it.
-pub(crate) fn put_code(out: &mut [u8], at: usize, code: i32, size: usize, after: u8) -> usize
-    requires { ⌜ Room (now out) at size 1 (signed code) ⌝ }
+pub(crate) fn put_code(out: &mut [u8], at: usize, code: i32, after: u8) -> usize
+    requires { ⌜ Room (now out) at (signed code) ⌝ }
     ensures { λ r. ⌜ Put (now (out .entry)) (now (out .exit)) at r (signed code ++ after ∷ []) ⌝ }
 {
     let number = magnitude(code);
     if code < 0 {
         out[at] = b'-';
         let next = at + 1;
-        let digits = size - 1;
-        return put_number(out, next, number, digits, after);
+        return put_number(out, next, number, after);
     }
-    put_number(out, at, number, size, after)
+    put_number(out, at, number, after)
 }

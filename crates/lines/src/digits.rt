@@ -5,7 +5,7 @@ ghost use mathlib.Core.List.{[], _∷_, _++_};
 ghost use lib.ListN.{length};
 ghost use lib.Seq.{sets};
 ghost use Rattle.lines.specs.Text.{decimal};
-ghost use Rattle.lines.specs.Writing.{Room, Put};
+ghost use Rattle.lines.specs.Writing.{two, four, Below, Counted, Room, Put};
 
 // At most four: no division.
 fn few_places(number: u64) -> usize
@@ -38,30 +38,122 @@ pub(crate) fn places(number: u64) -> usize
     count + few
 }
 
-// From the right, as division gives the digits; the first one needs no division.
-fn put_digits(out: &mut [u8], at: usize, number: u64, size: usize)
-    requires { ⌜ Room (now out) at size 0 (decimal number) ⌝ }
+// Both digits, a zero in front too. Narrow numbers divide faster than wide ones.
+fn put_two(out: &mut [u8], at: usize, number: u32)
+    requires { ⌜ Below (now out) at number 100 2 ⌝ }
+    ensures { λ r. ⌜ now (out .exit) ≡ sets (now (out .entry)) at (two number) ⌝ }
+{
+    let tens = (number / 10) as u8;
+    let ones = (number % 10) as u8;
+    let second = at + 1;
+    out[at] = b'0' + tens;
+    out[second] = b'0' + ones;
+}
+
+fn put_four(out: &mut [u8], at: usize, number: u32)
+    requires { ⌜ Below (now out) at number 10000 4 ⌝ }
+    ensures { λ r. ⌜ now (out .exit) ≡ sets (now (out .entry)) at (four number) ⌝ }
+{
+    let high = number / 100;
+    let low = number % 100;
+    let second = at + 2;
+    put_two(out, at, high);
+    put_two(out, second, low);
+}
+
+// One digit to four, with no zero in front; the place after them.
+fn put_few(out: &mut [u8], at: usize, number: u32) -> usize
+    requires { ⌜ Below (now out) at number 10000 (length (decimal number)) ⌝ }
+    ensures { λ r. ⌜ Put (now (out .entry)) (now (out .exit)) at r (decimal number) ⌝ }
+{
+    if number < 10 {
+        let digit = number as u8;
+        out[at] = b'0' + digit;
+        return at + 1;
+    }
+    if number < 100 {
+        put_two(out, at, number);
+        return at + 2;
+    }
+    if number < 1000 {
+        let hundreds = (number / 100) as u8;
+        let low = number % 100;
+        let second = at + 1;
+        out[at] = b'0' + hundreds;
+        put_two(out, second, low);
+        return at + 3;
+    }
+    put_four(out, at, number);
+    at + 4
+}
+
+// One digit to eight, from the left: they need not be counted.
+fn put_eight(out: &mut [u8], at: usize, number: u32) -> usize
+    requires { ⌜ Below (now out) at number 100000000 (length (decimal number)) ⌝ }
+    ensures { λ r. ⌜ Put (now (out .entry)) (now (out .exit)) at r (decimal number) ⌝ }
+{
+    if number < 10000 {
+        return put_few(out, at, number);
+    }
+    let high = number / 10000;
+    let low = number % 10000;
+    let next = put_few(out, at, high);
+    put_four(out, next, low);
+    next + 4
+}
+
+// As division gives the digits, four a turn.
+fn put_from_right(out: &mut [u8], at: usize, number: u64, size: usize)
+    requires { ⌜ Counted (now out) at size (decimal number) ⌝ }
     ensures { λ r. ⌜ now (out .exit) ≡ sets (now (out .entry)) at (decimal number) ⌝ }
 {
     let mut left = number;
-    let mut last = at + size - 1;
-    while 10 <= left {
-        let digit = (left % 10) as u8;
-        out[last] = b'0' + digit;
-        left = left / 10;
-        last = last - 1;
+    let mut end = at + size;
+    while 10000 <= left {
+        end = end - 4;
+        let low = (left % 10000) as u32;
+        put_four(out, end, low);
+        left = left / 10000;
     }
-    let first = left as u8;
-    out[last] = b'0' + first;
+    let high = left as u32;
+    put_few(out, at, high);
 }
 
-// A number and the byte after it.
-pub(crate) fn put_number(out: &mut [u8], at: usize, number: u64, size: usize, after: u8) -> usize
-    requires { ⌜ Room (now out) at size 1 (decimal number) ⌝ }
+fn put_digits(out: &mut [u8], at: usize, number: u64) -> usize
+    requires { ⌜ Room (now out) at (decimal number) ⌝ }
+    ensures { λ r. ⌜ Put (now (out .entry)) (now (out .exit)) at r (decimal number) ⌝ }
+{
+    if number < 100000000 {
+        let short = number as u32;
+        return put_eight(out, at, short);
+    }
+    let size = places(number);
+    put_from_right(out, at, number, size);
+    at + size
+}
+
+// A number and the byte after it. It is called from two places, so that it stands once
+// and the compiler copies only `put_number`, which is short.
+pub(crate) fn put_long(out: &mut [u8], at: usize, number: u64, after: u8) -> usize
+    requires { ⌜ Room (now out) at (decimal number) ⌝ }
     ensures { λ r. ⌜ Put (now (out .entry)) (now (out .exit)) at r (decimal number ++ after ∷ []) ⌝ }
 {
-    put_digits(out, at, number, size);
-    let end = at + size;
+    let end = put_digits(out, at, number);
     out[end] = after;
     end + 1
+}
+
+// The same, with a way of its own for one digit, as most values of a line have.
+pub(crate) fn put_number(out: &mut [u8], at: usize, number: u64, after: u8) -> usize
+    requires { ⌜ Room (now out) at (decimal number) ⌝ }
+    ensures { λ r. ⌜ Put (now (out .entry)) (now (out .exit)) at r (decimal number ++ after ∷ []) ⌝ }
+{
+    if number < 10 {
+        let digit = number as u8;
+        let second = at + 1;
+        out[at] = b'0' + digit;
+        out[second] = after;
+        return second + 1;
+    }
+    put_long(out, at, number, after)
 }

@@ -1,8 +1,9 @@
 // The output's lines, put into a lent buffer: a whole line, or nothing where it has no room.
 ghost use mathlib.Core.Path.{_≡_};
-ghost use Prim.Native.Nat.{_≤_};
+ghost use Prim.Native.Nat.{_+_, _≤_};
 ghost use mathlib.Core.List.{[], _∷_, _++_};
 ghost use lib.ListN.{length};
+ghost use lib.Dec.{ltb};
 ghost use Rattle.lines.specs.Says.{writtenSays};
 ghost use Rattle.lines.specs.Text.{signed, lineText, endText, tailText, inputText, putOf, writtenOf};
 use buffer::lacks_room;
@@ -10,12 +11,16 @@ use buffer::put_letters;
 use codes::code_places;
 use codes::put_code;
 use digits::places;
+use digits::put_long;
 use digits::put_number;
 use error::Refusal;
 
 mod buffer;
 mod codes;
 mod digits;
+
+// The longest line: three numbers of 20 digits, a code of 11 bytes and four bytes between and after them.
+const LINE_ROOM: usize = 75;
 
 pub enum Written {
     // The place after the text.
@@ -43,23 +48,39 @@ impl Written {
     }
 }
 
-// A step's line: its number, its code and two values.
-pub fn put_line(out: &mut [u8], at: usize, number: u64, code: i32, x: u64, y: u64) -> Written
-    ensures answer { λ r. ⌜ r ≡ writtenOf (now (out .entry)) at (lineText number code x y) ⌝ }
-    ensures buffer { λ r. ⌜ now (out .exit) ≡ putOf (now (out .entry)) at (lineText number code x y) ⌝ }
+fn line_size(number: u64, code: i32, x: u64, y: u64) -> usize
+    ensures { λ r. ⌜ r ≡ length (lineText number code x y) ⌝ }
 {
     let number_size = places(number);
     let code_size = code_places(code);
     let x_size = places(x);
     let y_size = places(y);
-    let size = number_size + code_size + x_size + y_size + 4;
-    if lacks_room(out.len(), at, size) {
+    number_size + code_size + x_size + y_size + 4
+}
+
+// Most lines are put far from the buffer's end; only near it is the size counted.
+fn lacks_line(room: usize, at: usize, number: u64, code: i32, x: u64, y: u64) -> bool
+    ensures { λ r. ⌜ r ≡ ltb room (at + length (lineText number code x y)) ⌝ }
+{
+    if lacks_room(room, at, LINE_ROOM) {
+        let size = line_size(number, code, x, y);
+        return lacks_room(room, at, size);
+    }
+    false
+}
+
+// A step's line: its number, its code and two values. The number is seldom one digit.
+pub fn put_line(out: &mut [u8], at: usize, number: u64, code: i32, x: u64, y: u64) -> Written
+    ensures answer { λ r. ⌜ r ≡ writtenOf (now (out .entry)) at (lineText number code x y) ⌝ }
+    ensures buffer { λ r. ⌜ now (out .exit) ≡ putOf (now (out .entry)) at (lineText number code x y) ⌝ }
+{
+    if lacks_line(out.len(), at, number, code, x, y) {
         return Written::Refused(Refusal::NoSpace);
     }
-    let second = put_number(out, at, number, number_size, b' ');
-    let third = put_code(out, second, code, code_size, b' ');
-    let fourth = put_number(out, third, x, x_size, b' ');
-    let end = put_number(out, fourth, y, y_size, b'\n');
+    let second = put_long(out, at, number, b' ');
+    let third = put_code(out, second, code, b' ');
+    let fourth = put_number(out, third, x, b' ');
+    let end = put_number(out, fourth, y, b'\n');
     Written::Accepted(end)
 }
 
@@ -76,8 +97,8 @@ pub fn put_end(out: &mut [u8], at: usize, cycles: u64, reading: u64) -> Written
     }
     put_letters(out, at, b"end ");
     let second = at + 4;
-    let third = put_number(out, second, cycles, cycles_size, b' ');
-    let end = put_number(out, third, reading, reading_size, b'\n');
+    let third = put_number(out, second, cycles, b' ');
+    let end = put_number(out, third, reading, b'\n');
     Written::Accepted(end)
 }
 
@@ -94,7 +115,7 @@ fn put_reason(out: &mut [u8], at: usize, letters: &[u8], code: i32) -> Written
     }
     put_letters(out, at, letters);
     let second = at + letters.len();
-    let end = put_code(out, second, code, code_size, b'\n');
+    let end = put_code(out, second, code, b'\n');
     Written::Accepted(end)
 }
 

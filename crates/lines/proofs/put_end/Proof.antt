@@ -18,7 +18,7 @@ use Rattle.lines.proofs.digits.put_number.Reads as put-number-reads
 abbrev Found : Type 0
 Found = lts.Else1 (places-reads.Asked, places-reads.Learnt, lacks-room-reads.Asked, lacks-room-reads.Learnt, put-letters-reads.Asked, put-letters-reads.Learnt, put-number-reads.Asked, put-number-reads.Learnt) reads.Pre reads.Post
 
-counted : (c : Found) → End (c .before .before .before .before .before .args .out .now) (c .before .before .before .before .before .args .at) (c .before .before .before .before .before .args .cycles) (c .before .before .before .before .before .args .reading) (c .before .before .before .places .result) (c .before .before .places2 .result)
+counted : (c : Found) → End (c .before .before .before .before .before .args .out .now) (c .before .before .before .before .before .args .at) (c .before .before .before .before .before .args .cycles) (c .before .before .before .before .before .args .reading)
 counted c =
     let a = c .before .before .before .before .before .args in
     end-counted (a .out .now) (a .at) (a .cycles) (a .reading) (c .before .before .before .places .ensures) (c .before .before .places2 .ensures) (c .before .lacks-room .ensures) (c .if1 .left)

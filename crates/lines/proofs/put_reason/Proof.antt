@@ -22,7 +22,7 @@ use Rattle.lines.proofs.codes.put_code.Reads as put-code-reads
 abbrev Found : Type 0
 Found = lts.Else1 (code-places-reads.Asked, code-places-reads.Learnt, lacks-room-reads.Asked, lacks-room-reads.Learnt, put-letters-reads.Asked, put-letters-reads.Learnt, put-code-reads.Asked, put-code-reads.Learnt) reads.Pre reads.Post
 
-counted : (c : Found) → Reason (c .before .before .before .before .before .args .out .now) (c .before .before .before .before .before .args .at) (c .before .before .before .before .before .args .letters .now) (toZ w32 (ofZ w32 (c .before .before .before .before .before .args .code))) (c .before .before .code-places .result)
+counted : (c : Found) → Reason (c .before .before .before .before .before .args .out .now) (c .before .before .before .before .before .args .at) (c .before .before .before .before .before .args .letters .now) (toZ w32 (ofZ w32 (c .before .before .before .before .before .args .code)))
 counted c =
     let a = c .before .before .before .before .before .args in
     reason-counted (a .out .now) (a .at) (a .letters .now) (toZ w32 (ofZ w32 (a .code))) (c .before .before .code-places .ensures) (c .before .lacks-room .ensures) (c .if1 .left)

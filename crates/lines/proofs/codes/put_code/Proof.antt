@@ -1,14 +1,10 @@
 -- `put_code` puts the sign where there is one, and the number.
 use native.Mathlib.Omega.{arith}
-use lib.ListN.{length, length-set}
-use mathlib.Core.Path.{ap}
+use lib.ListN.{length-set}
 use borrow.Author.Needs.{needs}
 use Rattle.lines.proofs.Signs.{same-number, minus-sign, no-sign, room-after, after-sign, room-plain, plain}
 use Rattle.lines.proofs.codes.put_code.Statement.{statement}
 use Rattle.lines.proofs.codes.put_code.Tie as tie
-
-sub-digits : tie.Need-sub-digits
-sub-digits c = omega (arith, ap length (minus-sign (c .before .before .before .fits .code) (c .if1 .taken)))
 
 requires : tie.Need-put-number-requires
 requires c κs =
@@ -43,7 +39,6 @@ put-code-spec =
     (λ c κs. search needs)
     (λ c. omega arith)
     (λ c. omega arith)
-    sub-digits
     requires
     (λ c. simp length-set at (c .before .before .put-number .kept .0))
     returns

@@ -1,9 +1,9 @@
--- What n cycles do to a counter in range, and that one division gives the same counter.
-use Prim.Native.Nat.{ℕ, zero, suc, _+_, _-_, _*_, _/_, _%_}
+-- What n cycles do to a counter in range, and that one subtraction or one division gives the same counter.
+use Prim.Native.Nat.{ℕ, zero, suc, _+_, _-_, _*_, _/_, _%_, _≤_, _<_}
 use mathlib.Core.Path.{_≡_, refl, sym, ap, _∙_}
 use mathlib.Core.Bool.{Bool, true, false, cond, _||_}
 use native.Mathlib.Omega.{arith}
-use native.Mathlib.Nat.{add-mul, one-mul, zero-mul, add-zero, div-eq-of-lt-le, div-add-mod'}
+use native.Mathlib.Nat.{add-mul, one-mul, zero-mul, add-zero, add-div-right, div-eq-of-lt, div-eq-of-lt-le, div-add-mod'}
 use borrow.Author.Tests.{eqb-true, eqb-false, lt-ltb}
 use lib.Dec.{ltb, eqb}
 use Rattle.error.proofs.Tests.{or-none}
@@ -57,22 +57,29 @@ wraps-div l n c h =
     let a = after l n c h in
     sym (div-eq-of-lt-le l (omega arith) (omega (arith, add-mul (wraps n c) 1 l, one-mul l)))
 
--- the counter that the code builds
-abbrev pub jumped : ℕ → Counter → Counter
-jumped n c = record {
-  period = c .period;
-  value = c .period - (c .period - c .value + n) % c .period;
-  flag = c .flag || ltb 0 ((c .period - c .value + n) / c .period);
-  cycles = record { 0 = c .cycles .0 + n };
-}
+-- a counter n cycles on, with a value and a flag
+abbrev pub moved : ℕ → Counter → ℕ → Bool → Counter
+moved n c value flag = record { period = c .period; value = value; flag = flag; cycles = record { 0 = c .cycles .0 + n } }
 
--- n cycles one by one, and the division, give the same counter
-pub run-jumps : (n : ℕ) (c : Counter) → Valid (c .period) c → runN n c ≡ jumped n c
-run-jumps n c h =
-    let l = c .period in
-    let a = after l n c h in
-    let w = wraps-div l n c h in
-    let x = l - c .value + n in
-    let value : runN n c .value ≡ l - x % l = omega (arith, div-add-mod' x l, ap (λ (k : ℕ). k * l) w) in
-    let flag : runN n c .flag ≡ (c .flag || ltb 0 (x / l)) = a .flag ∙ ap (λ (k : ℕ). c .flag || ltb 0 k) w in
-    λ i. record { period = a .valid .period i; value = value i; flag = flag i; cycles = record { 0 = a .total i } }
+-- Where n cycles come to one by one, and the code at once: with no wrap, and past one.
+module _ (n : ℕ) (c : Counter) (h : Valid (c .period) c) where
+  comes-to : {value : ℕ} {flag : Bool} → value ≡ runN n c .value → flag ≡ runN n c .flag → moved n c value flag ≡ runN n c
+  comes-to v f =
+      let a = after (c .period) n c h in
+      λ i. record { period = sym (a .valid .period) i; value = v i; flag = f i; cycles = record { 0 = sym (a .total) i } }
+
+  pub no-wrap : n < c .value → moved n c (c .value - n) (c .flag) ≡ runN n c
+  no-wrap short =
+      let a = after (c .period) n c h in
+      let w : wraps n c ≡ 0 = wraps-div (c .period) n c h ∙ div-eq-of-lt (omega arith) in
+      comes-to (omega (arith, ap (λ (k : ℕ). k * c .period) w, zero-mul (c .period))) (or-none _ ∙ ap (λ (k : ℕ). c .flag || ltb 0 k) (sym w) ∙ sym (a .flag))
+
+  pub past-wrap : c .value ≤ n → moved n c (c .period - (n - c .value) % c .period) true ≡ runN n c
+  past-wrap long =
+      let l = c .period in
+      let a = after l n c h in
+      let k = n - c .value in
+      let e : l - c .value + n ≡ k + l = omega arith in
+      let w : wraps n c ≡ k / l + 1 = wraps-div l n c h ∙ ap (λ (x : ℕ). x / l) e ∙ add-div-right k (omega arith) in
+      let value : l - k % l ≡ runN n c .value = omega (arith, div-add-mod' k l, ap (λ (x : ℕ). x * l) w, add-mul (k / l) 1 l, one-mul l) in
+      comes-to value (sym (or-true (c .flag)) ∙ ap (λ (b : Bool). c .flag || b) (sym (lt-ltb 0 (wraps n c) (omega arith))) ∙ sym (a .flag))

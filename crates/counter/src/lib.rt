@@ -67,24 +67,29 @@ impl Counter {
     }
 }
 
-// n cycles at once. What has passed since the last wrap tells how many wraps come, and where the value ends.
+// n cycles at once. A division only where a wrap comes: what is left of n after the first wrap tells where the value ends.
 fn advanced(counter: Counter, n: u32) -> Counter
     requires { ⌜ Valid (counter .period) counter × (counter .cycles .0 + n ≤ max64) ⌝ }
     ensures { λ r. ⌜ r ≡ runN n counter ⌝ }
 {
     let period = counter.period;
-    let since = period - counter.value;
-    let passed = since as u64 + n as u64;
-    let long = period as u64;
-    let wraps = passed / long;
-    let over = passed % long;
-    let rest = over as u32;
-    let value = period - rest;
     let cycles = counter.cycles.0 + n as u64;
+    if n < counter.value {
+        let value = counter.value - n;
+        return Counter {
+            period: period,
+            value: value,
+            flag: counter.flag,
+            cycles: Cycles(cycles),
+        };
+    }
+    let after = n - counter.value;
+    let over = after % period;
+    let ended = period - over;
     Counter {
         period: period,
-        value: value,
-        flag: counter.flag | (0 < wraps),
+        value: ended,
+        flag: true,
         cycles: Cycles(cycles),
     }
 }

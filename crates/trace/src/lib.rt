@@ -1,8 +1,10 @@
 // Sixteen bytes of a trace: their fields, and the one record that they stand for.
 ghost use Prim.Native.Nat.{_+_, _≤_};
 ghost use mathlib.Core.Path.{_≡_};
+ghost use mathlib.Core.Bool.{cond};
 ghost use lib.ListN.{length};
-ghost use Rattle.trace.specs.Decode.{wordOf, wordAt, fieldsAt, samples, usesThread, unusedSet, badSetup, recordOf, decodeFields, decodeOf, decodedNumber};
+ghost use Rattle.error.specs.declared.Refusal.the-variants.{Invalid};
+ghost use Rattle.trace.specs.Decode.{wordOf, wordAt, fieldsAt, decodeFields, decodeOf, decodedNumber};
 use clock::Gaps;
 use error::Refusal;
 
@@ -85,44 +87,19 @@ fn fields_at(trace: &[u8], at: usize) -> Fields
     }
 }
 
-// Kinds 1 and 3 to 7 sample first, with gaps p, q, r.
-fn samples(kind: u8) -> bool
-    ensures { λ r. ⌜ r ≡ samples kind ⌝ }
+// The record that was made of the fields, unless they are bad.
+fn accepted_unless(bad: bool, made: Record) -> Decoded
+    ensures { λ r. ⌜ r ≡ cond bad (Decoded.Refused Invalid) (Decoded.Accepted made) ⌝ }
 {
-    (kind == 1) | ((3 <= kind) & (kind <= 7))
+    if bad {
+        return Decoded::Refused(Refusal::Invalid);
+    }
+    Decoded::Accepted(made)
 }
 
-fn uses_thread(kind: u8) -> bool
-    ensures { λ r. ⌜ r ≡ usesThread kind ⌝ }
-{
-    (kind == 3) | (kind == 4) | ((6 <= kind) & (kind <= 8))
-}
-
-// Whether something is set that its kind does not use.
-fn unused_set(fields: Fields) -> bool
-    ensures { λ r. ⌜ r ≡ unusedSet fields ⌝ }
-{
-    let kind = fields.kind;
-    let gaps = samples(kind);
-    let setup = kind == 9;
-    let thread = uses_thread(kind);
-    let no_p = !(gaps | setup | (kind == 0)) & (fields.p != 0);
-    let no_q = !(gaps | setup) & (fields.q != 0);
-    let no_r = !gaps & (fields.r != 0);
-    let no_thread = !thread & (fields.thread != 0);
-    (fields.spare != 0) | no_thread | no_p | no_q | no_r
-}
-
-fn bad_setup(fields: Fields) -> bool
-    ensures { λ r. ⌜ r ≡ badSetup fields ⌝ }
-{
-    let good = counter::good_period(fields.p);
-    (fields.kind == 9) & !(good & (fields.q != 0))
-}
-
-// The record of a kind from 0 to 9.
-fn record_of(fields: Fields) -> Record
-    ensures { λ r. ⌜ r ≡ recordOf fields ⌝ }
+// By kind: what a kind does not use must be 0, and of what is used only a setup's period and tick are tested.
+fn decode_fields(fields: Fields) -> Decoded
+    ensures { λ r. ⌜ r ≡ decodeFields fields ⌝ }
 {
     let kind = fields.kind;
     let thread = fields.thread as u32;
@@ -131,36 +108,33 @@ fn record_of(fields: Fields) -> Record
         q: fields.q,
         r: fields.r,
     };
+    let thread_set = thread != 0;
+    let p_set = fields.p != 0;
+    let q_set = fields.q != 0;
+    let r_set = fields.r != 0;
+    if fields.spare != 0 {
+        return Decoded::Refused(Refusal::Invalid);
+    }
     match kind {
-        0 => Record::Run(fields.p),
-        1 => Record::Sample(gaps),
-        2 => Record::Announce,
-        3 => Record::Start(thread, gaps),
-        4 => Record::Switch(thread, gaps),
-        5 => Record::Stop(gaps),
-        6 => Record::Enable(thread, gaps),
-        7 => Record::Disable(thread, gaps),
-        8 => Record::Report(thread),
-        _ => Record::Setup(Setup {
-            period: fields.p,
-            tick: fields.q,
-        }),
+        0 => accepted_unless(thread_set | q_set | r_set, Record::Run(fields.p)),
+        1 => accepted_unless(thread_set, Record::Sample(gaps)),
+        2 => accepted_unless(thread_set | p_set | q_set | r_set, Record::Announce),
+        3 => Decoded::Accepted(Record::Start(thread, gaps)),
+        4 => Decoded::Accepted(Record::Switch(thread, gaps)),
+        5 => accepted_unless(thread_set, Record::Stop(gaps)),
+        6 => Decoded::Accepted(Record::Enable(thread, gaps)),
+        7 => Decoded::Accepted(Record::Disable(thread, gaps)),
+        8 => accepted_unless(p_set | q_set | r_set, Record::Report(thread)),
+        9 => {
+            let good = counter::good_period(fields.p) & q_set;
+            let setup = Setup {
+                period: fields.p,
+                tick: fields.q,
+            };
+            accepted_unless(thread_set | r_set | !good, Record::Setup(setup))
+        }
+        _ => Decoded::Refused(Refusal::Invalid),
     }
-}
-
-fn decode_fields(fields: Fields) -> Decoded
-    ensures { λ r. ⌜ r ≡ decodeFields fields ⌝ }
-{
-    if 9 < fields.kind {
-        return Decoded::Refused(Refusal::Invalid);
-    }
-    if unused_set(fields) {
-        return Decoded::Refused(Refusal::Invalid);
-    }
-    if bad_setup(fields) {
-        return Decoded::Refused(Refusal::Invalid);
-    }
-    Decoded::Accepted(record_of(fields))
 }
 
 // The record at a place; where no sixteen bytes are left there is none.

@@ -26,6 +26,7 @@ use Rattle.machine.specs.declared.Core.{Core}
 use Rattle.machine.specs.declared.tasks.Asked.{Asked}
 use Rattle.machine.specs.declared.tasks.Task.{Task}
 use Rattle.machine.specs.declared.tasks.Task.the-variants as T
+use Rattle.machine.specs.declared.tasks.Then.the-variants as W
 use Rattle.machine.specs.Task.{askedBy, sumOf}
 use Rattle.machine.specs.declared.Reason.{Reason}
 use Rattle.machine.specs.declared.table.Verdict.{Verdict}
@@ -81,8 +82,8 @@ module _ (c : Core) (slots : ℕ) (whole : malformed c slots ≡ false) where
       ran-on (c .timer .counter) p
       (in-range-of (c .timer .counter) (formed-valid (c .timer) (formed-of c slots (ready-of (c .ready) (none .1 .0)) whole)))
       (ltb-false max64 (c .timer .counter .cycles .0 + p) (none .1 .1 .1 .1 .1 .1 .0))
-  accepted (T.Sample g) none = sample-accepted g false false none
-  accepted (T.Operate op g) none = sample-accepted g _ _ none
+  accepted (T.Sample g W.Tell) none = sample-accepted g false false none
+  accepted (T.Sample g (W.Operate op)) none = sample-accepted g _ _ none
   accepted T.Announce none = tt
   accepted (T.Report i) none = tt
   accepted (T.Setup s) none = set-up-accepted (s .period) (s .tick) _ refl _ refl (none .0)

@@ -32,6 +32,7 @@ use Rattle.machine.specs.declared.Reason.the-variants as Why
 use Rattle.machine.specs.declared.Outcome.the-variants as O
 use Rattle.machine.specs.declared.tasks.Task.{Task}
 use Rattle.machine.specs.declared.tasks.Task.the-variants as T
+use Rattle.machine.specs.declared.tasks.Then.the-variants as W
 use Rattle.machine.specs.Task.{taskOf, askedBy}
 use Rattle.machine.specs.Table.{malformed, table}
 use Rattle.machine.specs.Step.{turned, enteredStep, announcedStep, effectOf, taskStep, decodedStep, coreStepOf, slotOf, coreOf, machineOf, steppedFrom, stepOf}
@@ -60,8 +61,8 @@ module _ (c : Core) (u : ThreadUsage) where
   effect-stays : (task : Task) → Stays c u (effectOf c u task)
   unfolding effectOf
   effect-stays (T.Run p) why q n = clash (cc)
-  effect-stays (T.Sample g) why q n = clash (cc)
-  effect-stays (T.Operate op g) why q n = entered-stays _ _ why q n
+  effect-stays (T.Sample g W.Tell) why q n = clash (cc)
+  effect-stays (T.Sample g (W.Operate op)) why q n = entered-stays _ _ why q n
   effect-stays T.Announce why q n = announced-stays _ why q n
   effect-stays (T.Report i) why q n = clash (cc)
   effect-stays (T.Setup s) why q n = clash (cc)
@@ -131,16 +132,16 @@ module _ (m : Machine) where
   entered-ready there u (E.Accepted e) = refl
   entered-ready there u (E.Refused why) = refl
 
-  pub operated-timer : (r : Record) (op : Operation) (g : Gaps) → taskOf r ≡ T.Operate op g → malformed c slots ≡ false → NoneHolds (rowsOf (taskOf r)) → stepOf m (D.Accepted r) .machine .timer ≡ sampleValue (m .timer) g .timer
+  pub operated-timer : (r : Record) (op : Operation) (g : Gaps) → taskOf r ≡ T.Sample g (W.Operate op) → malformed c slots ≡ false → NoneHolds (rowsOf (taskOf r)) → stepOf m (D.Accepted r) .machine .timer ≡ sampleValue (m .timer) g .timer
   unfolding effectOf
   operated-timer r op g e whole none = rw (effect-had r whole none _ refl, e) (entered-timer _ _ _)
 
-  pub sampled-timer : (g : Gaps) → malformed c slots ≡ false → NoneHolds (rowsOf (T.Sample g)) → stepOf m (D.Accepted (K.Sample g)) .machine .timer ≡ sampleValue (m .timer) g .timer
+  pub sampled-timer : (g : Gaps) → malformed c slots ≡ false → NoneHolds (rowsOf (T.Sample g W.Tell)) → stepOf m (D.Accepted (K.Sample g)) .machine .timer ≡ sampleValue (m .timer) g .timer
   unfolding effectOf taskOf
   sampled-timer g whole none = ap (λ s. s .machine .timer) (effect-had (K.Sample g) whole none _ refl)
 
   -- the tests of an operation are those of its sample, and more
-  pub sample-passes : (op : Operation) (g : Gaps) → NoneHolds (rowsOf (T.Operate op g)) → NoneHolds (rowsOf (T.Sample g))
+  pub sample-passes : (op : Operation) (g : Gaps) → NoneHolds (rowsOf (T.Sample g (W.Operate op))) → NoneHolds (rowsOf (T.Sample g W.Tell))
   unfolding askedBy
   sample-passes op g none = (refl, (none .1 .0, (none .1 .1 .0, (refl, (refl, (none .1 .1 .1 .1 .1 .0, (none .1 .1 .1 .1 .1 .1 .0, tt)))))))
 
@@ -150,17 +151,17 @@ module _ (m : Machine) where
   entered-kept there k (E.Accepted e) b q = clash (cc)
   entered-kept there k (E.Refused why) b q = rw (b, set-getD (m .ledger .threads) k newIdle) refl
 
-  refused-ledger : (r : Record) (op : Operation) (g : Gaps) → taskOf r ≡ T.Operate op g → malformed c slots ≡ false → NoneHolds (rowsOf (taskOf r)) → stepOf m (D.Accepted r) .outcome ≡ O.Refused Why.WontFit → stepOf m (D.Accepted r) .machine .ledger ≡ m .ledger
+  refused-ledger : (r : Record) (op : Operation) (g : Gaps) → taskOf r ≡ T.Sample g (W.Operate op) → malformed c slots ≡ false → NoneHolds (rowsOf (taskOf r)) → stepOf m (D.Accepted r) .outcome ≡ O.Refused Why.WontFit → stepOf m (D.Accepted r) .machine .ledger ≡ m .ledger
   unfolding effectOf
   refused-ledger r op g e whole none q =
       let had = effect-had r whole none _ refl in
       rw (had, e) (entered-kept _ _ _ refl (rw (had, e) at q))
 
-  sampled-outcome : (g : Gaps) → malformed c slots ≡ false → NoneHolds (rowsOf (T.Sample g)) → stepOf m (D.Accepted (K.Sample g)) .outcome ≡ O.Accepted (answerTo m (K.Sample g))
+  sampled-outcome : (g : Gaps) → malformed c slots ≡ false → NoneHolds (rowsOf (T.Sample g W.Tell)) → stepOf m (D.Accepted (K.Sample g)) .outcome ≡ O.Accepted (answerTo m (K.Sample g))
   unfolding effectOf taskOf answerTo
   sampled-outcome g whole none = ap (λ s. s .outcome) (effect-had (K.Sample g) whole none _ refl)
 
-  pub stays-ready : (r : Record) (op : Operation) (g : Gaps) → taskOf r ≡ T.Operate op g → malformed c slots ≡ false → NoneHolds (rowsOf (taskOf r)) → stepOf m (D.Accepted r) .machine .ready ≡ m .ready
+  pub stays-ready : (r : Record) (op : Operation) (g : Gaps) → taskOf r ≡ T.Sample g (W.Operate op) → malformed c slots ≡ false → NoneHolds (rowsOf (taskOf r)) → stepOf m (D.Accepted r) .machine .ready ≡ m .ready
   unfolding effectOf
   stays-ready r op g e whole none = rw (effect-had r whole none _ refl, e) (entered-ready _ _ _)
 
@@ -177,11 +178,11 @@ module _ (m : Machine) where
       (rw ed (λ i. record { ready = ready i; timer = timer i; ledger = ledger i }), sampled-outcome g (p .0) sample)
 
   -- nothing but an operation has a sum
-  by-task : (task : Task) → FirstIs (lastRows m task) Why.WontFit → (op : Operation) × (g : Gaps) × (task ≡ T.Operate op g)
+  by-task : (task : Task) → FirstIs (lastRows m task) Why.WontFit → (op : Operation) × (g : Gaps) × (task ≡ T.Sample g (W.Operate op))
   unfolding lastRows announceRows
   by-task (T.Run p) first = absurd first
-  by-task (T.Sample g) first = absurd first
-  by-task (T.Operate op g) first = (op, g, refl)
+  by-task (T.Sample g W.Tell) first = absurd first
+  by-task (T.Sample g (W.Operate op)) first = (op, g, refl)
   by-task T.Announce first = absurd (no-sum (announceOf (m .timer)) first)
     where
       no-sum : (x : Announced) → FirstIs (announceRows x) Why.WontFit → ⊥

@@ -34,6 +34,7 @@ use Rattle.machine.specs.declared.Outcome.{Outcome}
 use Rattle.machine.specs.declared.Outcome.the-variants as O
 use Rattle.machine.specs.declared.tasks.Task.{Task}
 use Rattle.machine.specs.declared.tasks.Task.the-variants as T
+use Rattle.machine.specs.declared.tasks.Then.the-variants as W
 use Rattle.machine.specs.declared.table.Verdict.{Verdict}
 use Rattle.machine.specs.declared.table.Verdict.the-variants as Y
 use Rattle.machine.specs.Task.{taskOf, askedBy, threadOf}
@@ -93,8 +94,8 @@ announced-verdict c u (A.Refused why) = refl
 effect-verdict : (m : Machine) (task : Task) → let c = coreOf m in malformed c (length (m .ledger .threads)) ≡ false → NoneHolds (table c (askedBy (m .ledger .books) (length (m .ledger .threads)) task)) → (k : ℕ) → k ≡ cond (ltb (threadOf (m .ledger .books) task) (length (m .ledger .threads))) (threadOf (m .ledger .books) task) 0 → verdictOf (effectOf c (recordOf (m .ledger) k) task .outcome) ≡ inOrder (lastRows m task) Y.Refused Y.Passed
 unfolding effectOf lastRows verdictOf askedBy threadOf
 effect-verdict m (T.Run p) whole none k e = refl
-effect-verdict m (T.Sample g) whole none k e = refl
-effect-verdict m (T.Operate op g) whole none k e =
+effect-verdict m (T.Sample g W.Tell) whole none k e = refl
+effect-verdict m (T.Sample g (W.Operate op)) whole none k e =
     rw (
       e ∙ slot-is (m .ledger .books) op (length (m .ledger .threads)) (recorded-of (coreOf m) (length (m .ledger .threads)) (ready-of (m .ready) (none .1 .0)) whole) (none .1 .1 .1 .0),
       entry-free (m .ledger .books) (recordOf (m .ledger) (concerned (m .ledger .books) op)) (sampleValue (m .timer) g .reading) op (none .1 .1 .1 .1 .0),

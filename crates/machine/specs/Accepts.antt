@@ -25,8 +25,7 @@ SetsUp s = setUp (s .period) (s .tick) ≡ U.Accepted (setup (s .period) (s .tic
 
 unfoldable pub Accepts : Core → Task → Type 0
 Accepts c (T.Run p) = Runs c p
-Accepts c (T.Sample g) = Samples c g
-Accepts c (T.Operate op g) = Samples c g
+Accepts c (T.Sample g then) = Samples c g
 Accepts c T.Announce = Unit {0}
 Accepts c (T.Report i) = Unit {0}
 Accepts c (T.Setup s) = SetsUp s

@@ -29,6 +29,7 @@ use Rattle.machine.specs.declared.Outcome.{Outcome}
 use Rattle.machine.specs.declared.Outcome.the-variants as O
 use Rattle.machine.specs.declared.tasks.Task.{Task}
 use Rattle.machine.specs.declared.tasks.Task.the-variants as T
+use Rattle.machine.specs.declared.tasks.Then.the-variants as W
 use Rattle.machine.specs.Task.{taskOf, askedBy}
 use Rattle.machine.specs.Table.{malformed, table}
 use Rattle.machine.specs.Step.{coreOf}
@@ -47,8 +48,8 @@ fullRow m op g =
 -- the last two rows of 01's table
 unfoldable pub lastRows : Machine → Task → List (Row Reason)
 lastRows m (T.Run p) = []
-lastRows m (T.Sample g) = []
-lastRows m (T.Operate op g) = fullRow m op g ∷ []
+lastRows m (T.Sample g W.Tell) = []
+lastRows m (T.Sample g (W.Operate op)) = fullRow m op g ∷ []
 lastRows m T.Announce = announceRows (announceOf (m .timer))
 lastRows m (T.Report i) = []
 lastRows m (T.Setup s) = []
@@ -63,7 +64,7 @@ everyRow m d = (malformed (coreOf m) (length (m .ledger .threads)), Why.Malforme
 
 -- a record that samples and then changes the ledger
 abbrev pub Operates : Record → Gaps → Type 0
-Operates r g = (op : Operation) × (taskOf r ≡ T.Operate op g)
+Operates r g = (op : Operation) × (taskOf r ≡ T.Sample g (W.Operate op))
 
 -- an operation tells what the ledger answers
 unfoldable pub operationTells : Answer → Outcome

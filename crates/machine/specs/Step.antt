@@ -33,6 +33,8 @@ use Rattle.machine.specs.declared.Reason.the-variants as Why
 use Rattle.machine.specs.declared.Outcome.the-variants as O
 use Rattle.machine.specs.declared.tasks.Task.{Task}
 use Rattle.machine.specs.declared.tasks.Task.the-variants as T
+use Rattle.machine.specs.declared.tasks.Then.{Then}
+use Rattle.machine.specs.declared.tasks.Then.the-variants as W
 use Rattle.machine.specs.Task.{taskOf, askedBy, threadOf}
 use Rattle.machine.specs.Table.{malformed, table}
 
@@ -66,6 +68,11 @@ enteredStep c u (E.Refused why) = turned c u Why.WontFit
 abbrev pub operatedStep : Core → ThreadUsage → Operation → SampleTaken → CoreStep
 operatedStep c u op taken = enteredStep (withTimer c (taken .timer)) u (entryOf (c .books) u (taken .reading) op)
 
+-- what follows a sample
+abbrev pub thenStep : Core → ThreadUsage → Then → SampleTaken → CoreStep
+thenStep c u W.Tell taken = sampledStep c u taken
+thenStep c u (W.Operate op) taken = operatedStep c u op taken
+
 -- Announce: dticks, announced. What the leaf refuses changes nothing.
 unfoldable pub announcedStep : Core → ThreadUsage → Announced → CoreStep
 announcedStep c u (A.Accepted a) = done (withTimer c (a .timer)) u (a .dticks .0) (a .timer .clock .announced .0)
@@ -86,8 +93,7 @@ setupStep s = record {
 
 unfoldable pub effectOf : Core → ThreadUsage → Task → CoreStep
 effectOf c u (T.Run p) = runStep c u p
-effectOf c u (T.Sample g) = sampledStep c u (sampleValue (c .timer) g)
-effectOf c u (T.Operate op g) = operatedStep c u op (sampleValue (c .timer) g)
+effectOf c u (T.Sample g then) = thenStep c u then (sampleValue (c .timer) g)
 effectOf c u T.Announce = announcedStep c u (announceOf (c .timer))
 effectOf c u (T.Report i) = reportStep c u
 effectOf c u (T.Setup s) = setupStep s

@@ -14,17 +14,19 @@ use Rattle.trace.specs.declared.Setup.{Setup}
 use Rattle.machine.specs.declared.tasks.Asked.{Asked}
 use Rattle.machine.specs.declared.tasks.Task.{Task}
 use Rattle.machine.specs.declared.tasks.Task.the-variants as T
+use Rattle.machine.specs.declared.tasks.Then.{Then}
+use Rattle.machine.specs.declared.tasks.Then.the-variants as W
 
 -- kinds 3 to 7 sample first, with gaps p, q, r
 unfoldable pub taskOf : Record → Task
 taskOf (K.Run p) = T.Run p
-taskOf (K.Sample g) = T.Sample g
+taskOf (K.Sample g) = T.Sample g W.Tell
 taskOf K.Announce = T.Announce
-taskOf (K.Start i g) = T.Operate (O.Start i) g
-taskOf (K.Switch i g) = T.Operate (O.Switch i) g
-taskOf (K.Stop g) = T.Operate O.Stop g
-taskOf (K.Enable i g) = T.Operate (O.Enable i) g
-taskOf (K.Disable i g) = T.Operate (O.Disable i) g
+taskOf (K.Start i g) = T.Sample g (W.Operate (O.Start i))
+taskOf (K.Switch i g) = T.Sample g (W.Operate (O.Switch i))
+taskOf (K.Stop g) = T.Sample g (W.Operate O.Stop)
+taskOf (K.Enable i g) = T.Sample g (W.Operate (O.Enable i))
+taskOf (K.Disable i g) = T.Sample g (W.Operate (O.Disable i))
 taskOf (K.Report i) = T.Report i
 taskOf (K.Setup s) = T.Setup s
 
@@ -54,17 +56,21 @@ asksSetup s = record { setup = true; bad = not (goodPeriod (s .period) && not (e
 
 unfoldable pub askedBy : Books → ℕ → Task → Asked
 askedBy b slots (T.Run p) = asksCycles p
-askedBy b slots (T.Sample g) = asksSample g
-askedBy b slots (T.Operate op g) = asksOperation b slots op g
+askedBy b slots (T.Sample g W.Tell) = asksSample g
+askedBy b slots (T.Sample g (W.Operate op)) = asksOperation b slots op g
 askedBy b slots T.Announce = asksNothing
 askedBy b slots (T.Report i) = asksReport slots i
 askedBy b slots (T.Setup s) = asksSetup s
 
+-- the thread whose record an operation at a sample concerns; the first where there is none
+abbrev pub thenThread : Books → Then → ℕ
+thenThread b W.Tell = 0
+thenThread b (W.Operate op) = concerned b op
+
 -- the thread whose record a task concerns; the first where it concerns none, whose record then stays
 unfoldable pub threadOf : Books → Task → ℕ
 threadOf b (T.Run p) = 0
-threadOf b (T.Sample g) = 0
-threadOf b (T.Operate op g) = concerned b op
+threadOf b (T.Sample g then) = thenThread b then
 threadOf b T.Announce = 0
 threadOf b (T.Report i) = i
 threadOf b (T.Setup s) = 0

@@ -3,7 +3,7 @@ ghost use mathlib.Core.Path.{_≡_};
 ghost use mathlib.Core.Bool.{cond};
 ghost use Rattle.clock.specs.Sample.{sampleValue};
 ghost use Rattle.clock.specs.Announce.{announceOf};
-ghost use Rattle.machine.specs.Step.{done, turned, withTimer, withBooks, runStep, sampledStep, enteredStep, operatedStep, announcedStep, reportStep, setupStep, effectOf};
+ghost use Rattle.machine.specs.Step.{done, turned, withTimer, withBooks, runStep, enteredStep, thenStep, announcedStep, reportStep, setupStep, effectOf};
 ghost use Rattle.machine.specs.Accepts.{Runs, Samples, SetsUp, Accepts};
 use crate::Core;
 use crate::CoreStep;
@@ -11,15 +11,16 @@ use crate::Outcome;
 use crate::Reason;
 use crate::Values;
 use crate::tasks::Task;
+use crate::tasks::Then;
 use clock::Announced;
 use clock::Gaps;
+use clock::SampleTaken;
 use clock::Sampled;
 use clock::SetUp;
 use clock::Timer;
 use counter::Ran;
 use ledger::Books;
 use ledger::Entered;
-use ledger::Operation;
 use trace::Setup;
 use usage::ThreadUsage;
 
@@ -84,24 +85,6 @@ fn wrap_number(wrap: bool) -> u64
     if wrap { 1 } else { 0 }
 }
 
-fn sample_effect(core: Core, usage: ThreadUsage, gaps: Gaps) -> CoreStep
-    requires { ⌜ Samples core gaps ⌝ }
-    ensures { λ r. ⌜ r ≡ sampledStep core usage (sampleValue (core .timer) gaps) ⌝ }
-{
-    let timer = core.timer;
-    let sampled = clock::sample(timer, gaps);
-    let Sampled::Accepted(taken) = sampled else {
-        return turned_away(core, usage, Reason::AnnounceFirst);
-    };
-    let after = taken.timer;
-    done(
-        with_timer(core, after),
-        usage,
-        taken.elapsed as u64,
-        wrap_number(taken.wrap),
-    )
-}
-
 // The sample stands either way; of the ledger nothing changes where its step is refused.
 fn entry_effect(core: Core, usage: ThreadUsage, entered: Entered) -> CoreStep
     ensures { λ r. ⌜ r ≡ enteredStep core usage entered ⌝ }
@@ -114,20 +97,36 @@ fn entry_effect(core: Core, usage: ThreadUsage, entered: Entered) -> CoreStep
     done(with_books(core, books), next, entry.cycles as u64, 0)
 }
 
-fn operate_effect(core: Core, usage: ThreadUsage, operation: Operation, gaps: Gaps) -> CoreStep
+fn then_effect(core: Core, usage: ThreadUsage, then: Then, taken: SampleTaken) -> CoreStep
+    ensures { λ r. ⌜ r ≡ thenStep core usage then taken ⌝ }
+{
+    let after = taken.timer;
+    let reading = taken.reading;
+    let books = core.books;
+    match then {
+        Then::Tell => done(
+            with_timer(core, after),
+            usage,
+            taken.elapsed as u64,
+            wrap_number(taken.wrap),
+        ),
+        Then::Operate(operation) => {
+            let entered = ledger::enter(books, usage, reading, operation);
+            entry_effect(with_timer(core, after), usage, entered)
+        }
+    }
+}
+
+fn sample_effect(core: Core, usage: ThreadUsage, gaps: Gaps, then: Then) -> CoreStep
     requires { ⌜ Samples core gaps ⌝ }
-    ensures { λ r. ⌜ r ≡ operatedStep core usage operation (sampleValue (core .timer) gaps) ⌝ }
+    ensures { λ r. ⌜ r ≡ thenStep core usage then (sampleValue (core .timer) gaps) ⌝ }
 {
     let timer = core.timer;
-    let books = core.books;
     let sampled = clock::sample(timer, gaps);
     let Sampled::Accepted(taken) = sampled else {
         return turned_away(core, usage, Reason::AnnounceFirst);
     };
-    let after = taken.timer;
-    let reading = taken.reading;
-    let entered = ledger::enter(books, usage, reading, operation);
-    entry_effect(with_timer(core, after), usage, entered)
+    then_effect(core, usage, then, taken)
 }
 
 fn announce_effect(core: Core, usage: ThreadUsage) -> CoreStep
@@ -179,8 +178,7 @@ pub(crate) fn effect(core: Core, usage: ThreadUsage, task: Task) -> CoreStep
 {
     match task {
         Task::Run(p) => run_effect(core, usage, p),
-        Task::Sample(gaps) => sample_effect(core, usage, gaps),
-        Task::Operate(operation, gaps) => operate_effect(core, usage, operation, gaps),
+        Task::Sample(gaps, then) => sample_effect(core, usage, gaps, then),
         Task::Announce => announce_effect(core, usage),
         Task::Report(_) => report_effect(core, usage),
         Task::Setup(setup) => setup_effect(core, usage, setup),

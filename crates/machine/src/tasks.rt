@@ -1,18 +1,24 @@
 // What a record asks of the machine: each kind that changes the ledger is a sample and then one operation.
 ghost use mathlib.Core.Path.{_≡_};
 ghost use Prim.Native.Nat.{_+_};
-ghost use Rattle.machine.specs.Task.{taskOf, asksNothing, asksCycles, asksSample, asksOperation, asksReport, asksSetup, askedBy, threadOf};
+ghost use Rattle.machine.specs.declared.tasks.Task.the-variants as T;
+ghost use Rattle.machine.specs.Task.{taskOf, asksNothing, asksCycles, asksSample, asksOperation, asksReport, asksSetup, askedBy, thenThread, threadOf};
 use clock::Gaps;
 use ledger::Books;
 use ledger::Operation;
 use trace::Record;
 use trace::Setup;
 
+// What is to be done with a sample's reading: it is told, or an operation of the ledger is entered at it.
+pub enum Then {
+    Tell,
+    Operate(Operation),
+}
+
 // What a record asks for. Each kind that changes the ledger is a sample and then one operation.
 pub enum Task {
     Run(u32),
-    Sample(Gaps),
-    Operate(Operation, Gaps),
+    Sample(Gaps, Then),
     Announce,
     Report(u32),
     Setup(Setup),
@@ -36,13 +42,22 @@ pub(crate) fn task_of(decoded: Record) -> Task
 {
     match decoded {
         Record::Run(p) => Task::Run(p),
-        Record::Sample(gaps) => Task::Sample(gaps),
+        Record::Sample(gaps) => Task::Sample(gaps, Then::Tell),
         Record::Announce => Task::Announce,
-        Record::Start(thread, gaps) => Task::Operate(Operation::Start(thread), gaps),
-        Record::Switch(thread, gaps) => Task::Operate(Operation::Switch(thread), gaps),
-        Record::Stop(gaps) => Task::Operate(Operation::Stop, gaps),
-        Record::Enable(thread, gaps) => Task::Operate(Operation::Enable(thread), gaps),
-        Record::Disable(thread, gaps) => Task::Operate(Operation::Disable(thread), gaps),
+        Record::Start(thread, gaps) => Task::Sample(gaps, Then::Operate(Operation::Start(thread))),
+        Record::Switch(thread, gaps) => Task::Sample(
+            gaps,
+            Then::Operate(Operation::Switch(thread)),
+        ),
+        Record::Stop(gaps) => Task::Sample(gaps, Then::Operate(Operation::Stop)),
+        Record::Enable(thread, gaps) => Task::Sample(
+            gaps,
+            Then::Operate(Operation::Enable(thread)),
+        ),
+        Record::Disable(thread, gaps) => Task::Sample(
+            gaps,
+            Then::Operate(Operation::Disable(thread)),
+        ),
         Record::Report(thread) => Task::Report(thread),
         Record::Setup(setup) => Task::Setup(setup),
     }
@@ -95,6 +110,15 @@ fn asks_operation(books: Books, slots: usize, operation: Operation, gaps: Gaps) 
     asked
 }
 
+fn asks_then(books: Books, slots: usize, gaps: Gaps, then: Then) -> Asked
+    ensures { λ r. ⌜ r ≡ askedBy books slots (T.Sample gaps then) ⌝ }
+{
+    match then {
+        Then::Tell => asks_sample(gaps),
+        Then::Operate(operation) => asks_operation(books, slots, operation, gaps),
+    }
+}
+
 fn asks_report(slots: usize, thread: u32) -> Asked
     ensures { λ r. ⌜ r ≡ asksReport slots thread ⌝ }
 {
@@ -120,11 +144,19 @@ pub(crate) fn asked_by(books: Books, slots: usize, task: Task) -> Asked
 {
     match task {
         Task::Run(p) => asks_cycles(p as u64),
-        Task::Sample(gaps) => asks_sample(gaps),
-        Task::Operate(operation, gaps) => asks_operation(books, slots, operation, gaps),
+        Task::Sample(gaps, then) => asks_then(books, slots, gaps, then),
         Task::Announce => asks_nothing(),
         Task::Report(thread) => asks_report(slots, thread),
         Task::Setup(setup) => asks_setup(setup),
+    }
+}
+
+fn then_thread(books: Books, then: Then) -> u32
+    ensures { λ r. ⌜ r ≡ thenThread books then ⌝ }
+{
+    match then {
+        Then::Tell => 0,
+        Then::Operate(operation) => ledger::concerned(books, operation),
     }
 }
 
@@ -133,8 +165,7 @@ pub(crate) fn thread_of(books: Books, task: Task) -> u32
 {
     match task {
         Task::Run(_) => 0,
-        Task::Sample(_) => 0,
-        Task::Operate(operation, _) => ledger::concerned(books, operation),
+        Task::Sample(_, then) => then_thread(books, then),
         Task::Announce => 0,
         Task::Report(thread) => thread,
         Task::Setup(_) => 0,

@@ -9,6 +9,7 @@ const MOST_PARTS: u32 = 1000000;
 
 fn main() {
     let mut trace = [0u8; PART];
+    let mut text = [0u8; transcript::MOST_ROOM];
     let mut machine = machine::fresh();
     let mut first: u64 = 0;
     let mut parts: u32 = 0;
@@ -19,7 +20,7 @@ fn main() {
             os::fail(b"standard input");
             return;
         }
-        let part = output::write_part(machine, first, &trace[start..got]);
+        let part = output::write_part(machine, first, &trace[start..got], &mut text);
         if !part.written {
             return;
         }

@@ -10,10 +10,9 @@ pub struct After {
     pub first: u64,
 }
 
-// The machine after the part's records, whose lines are written with one call.
-pub(crate) fn write_part(machine: Machine, first: u64, trace: &[u8]) -> After {
-    let mut text = [0u8; transcript::MOST_ROOM];
-    let part = transcript::put_part(machine, first, trace, &mut text, 0);
+// The machine after the part's records, whose lines are put into the text lent and written with one call.
+pub(crate) fn write_part(machine: Machine, first: u64, trace: &[u8], text: &mut [u8]) -> After {
+    let part = transcript::put_part(machine, first, trace, text, 0);
     let written = part.written;
     let Written::Accepted(length) = written else {
         complain(b"the lines do not fit\n");
@@ -23,7 +22,7 @@ pub(crate) fn write_part(machine: Machine, first: u64, trace: &[u8]) -> After {
             first: first,
         };
     };
-    let written = write_text(&text, length);
+    let written = write_text(text, length);
     let next = part.machine;
     After {
         written: written,

@@ -64,9 +64,9 @@ module _ {m₀ : Machine} {n₀ : ℕ} {ds₀ : List Decoded} {slots : ℕ} {tra
       unfolding linesFrom recordsFrom outcomeText
       this-line = rw (stepped, ec, ex, ey) refl
 
-      pub goes-on : {threads' : List ThreadUsage} → threads' ≡ threadsAfter threads k s → length threads' ≡ slots → Going m₀ n₀ ds₀ slots trace out₀ at limit out' (machineOf (s .core) threads') (number + 1) rest (from + 16) end'
+      pub goes-on : {core' : Core} {threads' : List ThreadUsage} → core' ≡ s .core → threads' ≡ threadsAfter threads k s → length threads' ≡ slots → Going m₀ n₀ ds₀ slots trace out₀ at limit out' (machineOf core' threads') (number + 1) rest (from + 16) end'
       unfolding machineAfter recordsFrom
-      goes-on et el = rw (add-one number) (record {
+      goes-on en' et el = rw (en', add-one number) (record {
         machine = rw et (sym (ap (λ t. machineAfter (t .machine) (recordsFrom rest trace (from + 16))) stepped) ∙ going .machine);
         place = rw (et, placed) (let h = going .place in let both = length-append (lineText number code x y) (linesFrom (machineOf (s .core) (threadsAfter threads k s)) (suc number) (recordsFrom rest trace (from + 16))) in let same = ap length this-line in omega arith);
         bytes = rw (et, placed, eo, put out end (lineText number code x y) has-room) (sym (in-parts out end (lineText number code x y) (linesFrom (machineOf (s .core) (threadsAfter threads k s)) (suc number) (recordsFrom rest trace (from + 16)))) ∙ (sym (ap (sets out end) this-line) ∙ going .bytes));
@@ -83,8 +83,8 @@ module _ (threads : List ThreadUsage) (k : ℕ) (s : CoreStep) where
   pub all-fresh : {n : ℕ} {idle : ThreadUsage} → s .fresh ≡ true → length threads ≡ n → idle ≡ newIdle → replicate n idle ≡ threadsAfter threads k s
   all-fresh e n i = rw (e, n, i) refl
 
-  pub one-stored : s .fresh ≡ false → set threads k (s .usage) ≡ threadsAfter threads k s
-  one-stored e = rw e refl
+  pub one-stored : {u : ThreadUsage} → s .fresh ≡ false → u ≡ s .usage → set threads k u ≡ threadsAfter threads k s
+  one-stored e i = rw (e, i) refl
 
 -- where nothing is left, everything is done
 pub ended : {core₀ : Core} {m : Machine} {n₀ count at : ℕ} {slots : ℕ} {trace out₀ out : List ℕ} {after : Machine} {number left from end : ℕ} → core₀ ≡ coreOf m → Going (machineOf core₀ (m .ledger .threads)) n₀ (recordsFrom count trace 0) slots trace out₀ at (at + count * lineRoom) out after number left from end → left ≤ 0 → Replays m n₀ count trace out₀ out at (record { end = end; machine = after })

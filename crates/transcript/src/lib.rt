@@ -10,7 +10,11 @@ ghost use Rattle.lines.specs.Text.{lineRoom};
 ghost use Rattle.lines.specs.Writing.{Put};
 ghost use Rattle.transcript.specs.Room.{HasRoom, Replays, Fits};
 ghost use Rattle.transcript.specs.Replay.{partRefused, partOf, partBuffer, lastRoom, lastText, textFrom, roomFor, replayOf, replayedOf};
+use clock::Clock;
+use clock::Timer;
+use counter::Counter;
 use error::Refusal;
+use ledger::Books;
 use ledger::Ledger;
 use lines::Written;
 use lines::put_end;
@@ -19,6 +23,7 @@ use lines::put_line;
 use lines::put_tail;
 use machine::Core;
 use machine::Machine;
+use units::Cycles;
 use usage::ThreadUsage;
 
 // The most bytes that a trace may have.
@@ -68,7 +73,7 @@ fn put_records(
         let usage = threads[k];
         let stepped = machine::core_step(core, usage, ThreadUsage::SLOTS, decoded);
         let next = stepped.core;
-        core = next;
+        core = core_afresh(next);
         let outcome = stepped.outcome;
         // Room was asked for before the first line, so that each one is written.
         let written = put_line(out, end, number, outcome.number(), outcome.x(), outcome.y());
@@ -81,12 +86,55 @@ fn put_records(
             threads = [ThreadUsage::new_idle(); ThreadUsage::SLOTS];
             continue;
         }
-        let changed = stepped.usage;
+        let changed = usage_afresh(stepped.usage);
         threads[k] = changed;
     }
     Replayed {
         end: end,
         machine: together(core, threads),
+    }
+}
+
+// A thread's record and the core, put together from their numbers. A copy would take along the unused bytes between
+// them, from record to record.
+fn usage_afresh(usage: ThreadUsage) -> ThreadUsage
+    ensures { λ r. ⌜ r ≡ usage ⌝ }
+{
+    ThreadUsage {
+        track_usage: usage.track_usage,
+        total_cycles: Cycles(usage.total_cycles.0),
+        num_windows: usage.num_windows,
+    }
+}
+
+fn core_afresh(core: Core) -> Core
+    ensures { λ r. ⌜ r ≡ core ⌝ }
+{
+    let counter = core.timer.counter;
+    let clock = core.timer.clock;
+    let books = core.books;
+    Core {
+        ready: core.ready,
+        timer: Timer {
+            counter: Counter {
+                period: counter.period,
+                value: counter.value,
+                flag: counter.flag,
+                cycles: Cycles(counter.cycles.0),
+            },
+            clock: Clock {
+                tick: clock.tick,
+                count: Cycles(clock.count.0),
+                announced: Cycles(clock.announced.0),
+                overflow: clock.overflow,
+                last: Cycles(clock.last.0),
+            },
+        },
+        books: Books {
+            stamp: books.stamp,
+            running: books.running,
+            total: Cycles(books.total.0),
+        },
     }
 }
 

@@ -15,13 +15,9 @@ sample-effect-requires : tie.Need-sample-effect-requires
 unfolding Accepts
 sample-effect-requires c κs = accepts-as (c .before .before .before .args .core) (c .before .task2 .given .1) (c .before .before .before .pre)
 
-operate-effect-requires : tie.Need-operate-effect-requires
-unfolding Accepts
-operate-effect-requires c κs = accepts-as (c .before .before .before .args .core) (c .before .task3 .given .1) (c .before .before .before .pre)
-
 setup-effect-requires : tie.Need-setup-effect-requires
 unfolding Accepts
-setup-effect-requires c κs = accepts-as (c .before .before .before .args .core) (c .before .task4 .given .1) (c .before .before .before .pre)
+setup-effect-requires c κs = accepts-as (c .before .before .before .args .core) (c .before .task3 .given .1) (c .before .before .before .pre)
 
 returns : tie.Need-returns
 unfolding effectOf
@@ -33,19 +29,15 @@ returns-2 c = c .sample-effect .ensures ∙ sym (ap (effectOf (c .before .before
 
 returns-3 : tie.Need-returns-3
 unfolding effectOf
-returns-3 c = c .operate-effect .ensures ∙ sym (ap (effectOf (c .before .before .before .before .args .core) (c .before .before .before .before .args .usage)) (c .before .before .task3 .given .1))
+returns-3 c = c .announce-effect .ensures ∙ sym (ap (effectOf (c .before .before .before .args .core) (c .before .before .before .args .usage)) (c .before .enum-told .given .1))
 
 returns-4 : tie.Need-returns-4
 unfolding effectOf
-returns-4 c = c .announce-effect .ensures ∙ sym (ap (effectOf (c .before .before .before .args .core) (c .before .before .before .args .usage)) (c .before .enum-told .given .1))
+returns-4 c = c .report-effect .ensures ∙ sym (ap (effectOf (c .before .before .before .args .core) (c .before .before .before .args .usage)) (c .before .enum-told2 .given .1))
 
 returns-5 : tie.Need-returns-5
 unfolding effectOf
-returns-5 c = c .report-effect .ensures ∙ sym (ap (effectOf (c .before .before .before .args .core) (c .before .before .before .args .usage)) (c .before .enum-told2 .given .1))
-
-returns-6 : tie.Need-returns-6
-unfolding effectOf
-returns-6 c = c .setup-effect .ensures ∙ sym (ap (effectOf (c .before .before .before .before .args .core) (c .before .before .before .before .args .usage)) (c .before .before .task4 .given .1))
+returns-5 c = c .setup-effect .ensures ∙ sym (ap (effectOf (c .before .before .before .before .args .core) (c .before .before .before .before .args .usage)) (c .before .before .task3 .given .1))
 
 pub effect-spec : {M : Type 1} → statement M
-effect-spec = tie.close (tie.spec (λ c. search needs) run-effect-requires (λ c. search needs) sample-effect-requires (λ c. search needs) operate-effect-requires (λ c. search needs) (λ c κs. search needs) (λ c. search needs) (λ c κs. search needs) (λ c. search needs) setup-effect-requires returns returns-2 returns-3 returns-4 returns-5 returns-6)
+effect-spec = tie.close (tie.spec (λ c. search needs) run-effect-requires (λ c. search needs) sample-effect-requires (λ c. search needs) (λ c κs. search needs) (λ c. search needs) (λ c κs. search needs) (λ c. search needs) setup-effect-requires returns returns-2 returns-3 returns-4 returns-5)

@@ -27,17 +27,23 @@ use usage::ThreadUsage;
 fn with_timer(core: Core, timer: Timer) -> Core
     ensures { λ r. ⌜ r ≡ withTimer core timer ⌝ }
 {
-    let mut next = core;
-    next.timer = timer;
-    next
+    let books = core.books;
+    Core {
+        ready: core.ready,
+        timer: timer,
+        books: books,
+    }
 }
 
 fn with_books(core: Core, books: Books) -> Core
     ensures { λ r. ⌜ r ≡ withBooks core books ⌝ }
 {
-    let mut next = core;
-    next.books = books;
-    next
+    let timer = core.timer;
+    Core {
+        ready: core.ready,
+        timer: timer,
+        books: books,
+    }
 }
 
 fn done(core: Core, usage: ThreadUsage, x: u64, y: u64) -> CoreStep
@@ -74,8 +80,11 @@ fn run_effect(core: Core, usage: ThreadUsage, p: u32) -> CoreStep
     let Ran::Accepted(after) = ran else {
         return turned_away(core, usage, Reason::CyclesAbove);
     };
-    let mut next = timer;
-    next.counter = after;
+    let clock = timer.clock;
+    let next = Timer {
+        counter: after,
+        clock: clock,
+    };
     done(with_timer(core, next), usage, 0, 0)
 }
 

@@ -61,7 +61,7 @@ fn put_records(
     requires { ⌜ HasRoom first count (now out) at ⌝ }
     ensures { λ r. ⌜ Replays machine first count (now (trace .entry)) (now (out .entry)) (now (out .exit)) at r ⌝ }
 {
-    let mut core = machine.core();
+    let mut core = core_afresh(machine.core());
     let mut threads = machine.ledger.threads;
     let mut number = first;
     let mut left = count;

@@ -21,7 +21,7 @@ abbrev μ-loop : tie.MeasureT-loop
 μ-loop first count trace out₀ at core₀ threads₀ number₀ left₀ from₀ end₀ out core threads number left from end = left
 
 loop-holds : tie.Need-loop-holds Inv-loop μ-loop
-loop-holds c = let pre = c .before .before .before .before .pre in record { machine = refl; place = refl; bytes = refl; kept = refl; table = refl; numbers = omega arith; records = omega arith; room = omega arith; enough = omega arith }
+loop-holds c = let pre = c .before .before .before .before .before .pre in record { machine = refl; place = refl; bytes = refl; kept = refl; table = refl; numbers = omega arith; records = omega arith; room = omega arith; enough = omega arith }
 
 mul-usage : tie.Need-mul-usage Inv-loop μ-loop
 mul-usage c = let h = within _ _ (c .slot .ensures) (omega arith) in omega arith
@@ -33,7 +33,7 @@ add-from : tie.Need-add-from Inv-loop μ-loop
 add-from c = let h = c .before .before .before .before .before .before .before .before .before .before .before .before .before .before .before .loop .inv in omega arith
 
 loop-again : tie.Need-loop-again Inv-loop μ-loop
-loop-again c = let n = simp length-map at (c .before .before .before .before .before .before .before .before .before .before .before .before .before .before .before .before .before .before .before .before .before .before .good .0 .1 .1 .1 .1 .0 .1 .1 .1 .0 .1 .0 .1) in goes-on (c .before .before .before .before .before .before .before .before .before .before .before .before .before .before .before .before .before .loop .inv) (c .before .before .before .before .before .before .before .before .before .before .before .before .before .before .before .before .loop-test .taken) n (c .before .before .before .before .before .before .before .before .before .before .before .before .before .before .before .decode .ensures) (c .before .before .before .before .before .before .before .before .before .before .before .before .before .before .slot .ensures) (c .before .before .before .before .before .before .before .before .before .before .before .before .core-step .ensures) (handed (c .before .before .before .before .before .before .before .before .number .ok) (c .before .before .before .before .before .before .before .before .number .ensures)) (c .before .before .before .before .before .before .before .x .ensures) (c .before .before .before .before .before .before .y .ensures) (line-room _ _ _ _ (let h = c .before .before .before .before .before .before .before .before .before .before .before .before .before .before .before .before .before .loop .inv .numbers in omega arith) (code-fits (c .before .before .before .before .before .before .before .before .number .result) (c .before .before .before .before .before .before .before .before .number .ok)) (omega arith) (omega arith)) (c .before .before .before .before .before .put-line .ensures .0) (c .before .before .before .before .before .put-line .ensures .1) (c .before .before .end .ensures) (c .before .before .before .before .before .before .before .before .before .before .core-afresh .ensures) (all-fresh (c .before .before .before .before .before .before .before .before .before .before .before .before .before .before .before .before .before .loop .threads) (c .before .before .before .before .before .before .before .before .before .before .before .before .before .before .slot .result) (c .before .before .before .before .before .before .before .before .before .before .before .before .core-step .result) (c .before .if1 .taken) (c .before .before .before .before .before .before .before .before .before .before .before .before .before .before .before .before .before .loop .inv .table ∙ n) (c .new-idle .ensures)) (sym n)
+loop-again c = let n = simp length-map at (c .before .before .before .before .before .before .before .before .before .before .before .before .before .before .before .before .before .before .before .before .before .before .before .good .0 .1 .1 .1 .1 .0 .1 .1 .1 .0 .1 .0 .1) in goes-on (c .before .before .before .before .before .before .before .before .before .before .before .before .before .before .before .before .before .loop .inv) (c .before .before .before .before .before .before .before .before .before .before .before .before .before .before .before .before .loop-test .taken) n (c .before .before .before .before .before .before .before .before .before .before .before .before .before .before .before .decode .ensures) (c .before .before .before .before .before .before .before .before .before .before .before .before .before .before .slot .ensures) (c .before .before .before .before .before .before .before .before .before .before .before .before .core-step .ensures) (handed (c .before .before .before .before .before .before .before .before .number .ok) (c .before .before .before .before .before .before .before .before .number .ensures)) (c .before .before .before .before .before .before .before .x .ensures) (c .before .before .before .before .before .before .y .ensures) (line-room _ _ _ _ (let h = c .before .before .before .before .before .before .before .before .before .before .before .before .before .before .before .before .before .loop .inv .numbers in omega arith) (code-fits (c .before .before .before .before .before .before .before .before .number .result) (c .before .before .before .before .before .before .before .before .number .ok)) (omega arith) (omega arith)) (c .before .before .before .before .before .put-line .ensures .0) (c .before .before .before .before .before .put-line .ensures .1) (c .before .before .end .ensures) (c .before .before .before .before .before .before .before .before .before .before .core-afresh2 .ensures) (all-fresh (c .before .before .before .before .before .before .before .before .before .before .before .before .before .before .before .before .before .loop .threads) (c .before .before .before .before .before .before .before .before .before .before .before .before .before .before .slot .result) (c .before .before .before .before .before .before .before .before .before .before .before .before .core-step .result) (c .before .if1 .taken) (c .before .before .before .before .before .before .before .before .before .before .before .before .before .before .before .before .before .loop .inv .table ∙ n) (c .new-idle .ensures)) (sym n)
 
 mul-threads : tie.Need-mul-threads Inv-loop μ-loop
 mul-threads c = let h = within _ _ (c .before .before .before .before .before .before .before .before .before .before .before .before .before .before .slot .ensures) (omega arith) in omega arith
@@ -42,10 +42,10 @@ array-set-from-threads : tie.Need-array-set-from-threads Inv-loop μ-loop
 array-set-from-threads c = within _ _ (c .before .before .before .before .before .before .before .before .before .before .before .before .before .before .slot .ensures) (omega arith)
 
 loop-again-2 : tie.Need-loop-again-2 Inv-loop μ-loop
-loop-again-2 c = let n = simp length-map at (c .before .before .before .before .before .before .before .before .before .before .before .before .before .before .before .before .before .before .before .before .before .before .good .0 .1 .1 .1 .1 .0 .1 .1 .1 .0 .1 .0 .1) in goes-on (c .before .before .before .before .before .before .before .before .before .before .before .before .before .before .before .before .before .loop .inv) (c .before .before .before .before .before .before .before .before .before .before .before .before .before .before .before .before .loop-test .taken) n (c .before .before .before .before .before .before .before .before .before .before .before .before .before .before .before .decode .ensures) (c .before .before .before .before .before .before .before .before .before .before .before .before .before .before .slot .ensures) (c .before .before .before .before .before .before .before .before .before .before .before .before .core-step .ensures) (handed (c .before .before .before .before .before .before .before .before .number .ok) (c .before .before .before .before .before .before .before .before .number .ensures)) (c .before .before .before .before .before .before .before .x .ensures) (c .before .before .before .before .before .before .y .ensures) (line-room _ _ _ _ (let h = c .before .before .before .before .before .before .before .before .before .before .before .before .before .before .before .before .before .loop .inv .numbers in omega arith) (code-fits (c .before .before .before .before .before .before .before .before .number .result) (c .before .before .before .before .before .before .before .before .number .ok)) (omega arith) (omega arith)) (c .before .before .before .before .before .put-line .ensures .0) (c .before .before .before .before .before .put-line .ensures .1) (c .before .before .end .ensures) (c .before .before .before .before .before .before .before .before .before .before .core-afresh .ensures) (one-stored (c .before .before .before .before .before .before .before .before .before .before .before .before .before .before .before .before .before .loop .threads) (c .before .before .before .before .before .before .before .before .before .before .before .before .before .before .slot .result) (c .before .before .before .before .before .before .before .before .before .before .before .before .core-step .result) (c .before .if1 .left) (c .usage-afresh .ensures)) (length-set (c .before .before .before .before .before .before .before .before .before .before .before .before .before .before .before .before .before .loop .threads) (c .before .before .before .before .before .before .before .before .before .before .before .before .before .before .slot .result) (c .usage-afresh .result) ∙ c .before .before .before .before .before .before .before .before .before .before .before .before .before .before .before .before .before .loop .inv .table)
+loop-again-2 c = let n = simp length-map at (c .before .before .before .before .before .before .before .before .before .before .before .before .before .before .before .before .before .before .before .before .before .before .before .good .0 .1 .1 .1 .1 .0 .1 .1 .1 .0 .1 .0 .1) in goes-on (c .before .before .before .before .before .before .before .before .before .before .before .before .before .before .before .before .before .loop .inv) (c .before .before .before .before .before .before .before .before .before .before .before .before .before .before .before .before .loop-test .taken) n (c .before .before .before .before .before .before .before .before .before .before .before .before .before .before .before .decode .ensures) (c .before .before .before .before .before .before .before .before .before .before .before .before .before .before .slot .ensures) (c .before .before .before .before .before .before .before .before .before .before .before .before .core-step .ensures) (handed (c .before .before .before .before .before .before .before .before .number .ok) (c .before .before .before .before .before .before .before .before .number .ensures)) (c .before .before .before .before .before .before .before .x .ensures) (c .before .before .before .before .before .before .y .ensures) (line-room _ _ _ _ (let h = c .before .before .before .before .before .before .before .before .before .before .before .before .before .before .before .before .before .loop .inv .numbers in omega arith) (code-fits (c .before .before .before .before .before .before .before .before .number .result) (c .before .before .before .before .before .before .before .before .number .ok)) (omega arith) (omega arith)) (c .before .before .before .before .before .put-line .ensures .0) (c .before .before .before .before .before .put-line .ensures .1) (c .before .before .end .ensures) (c .before .before .before .before .before .before .before .before .before .before .core-afresh2 .ensures) (one-stored (c .before .before .before .before .before .before .before .before .before .before .before .before .before .before .before .before .before .loop .threads) (c .before .before .before .before .before .before .before .before .before .before .before .before .before .before .slot .result) (c .before .before .before .before .before .before .before .before .before .before .before .before .core-step .result) (c .before .if1 .left) (c .usage-afresh .ensures)) (length-set (c .before .before .before .before .before .before .before .before .before .before .before .before .before .before .before .before .before .loop .threads) (c .before .before .before .before .before .before .before .before .before .before .before .before .before .before .slot .result) (c .usage-afresh .result) ∙ c .before .before .before .before .before .before .before .before .before .before .before .before .before .before .before .before .before .loop .inv .table)
 
 returns : tie.Need-returns Inv-loop μ-loop
-returns c = rw (c .together .ensures) (ended (c .before .before .before .before .core .ensures) (c .before .before .loop .inv) (c .before .loop-test .left))
+returns c = rw (c .together .ensures) (ended (c .before .before .before .before .core-afresh .ensures ∙ c .before .before .before .before .before .core .ensures) (c .before .before .loop .inv) (c .before .loop-test .left))
 
 pub put-records-spec : {M : Type 1} → statement M
-put-records-spec = tie.close (tie.spec Inv-loop μ-loop (λ c κs. search needs) loop-holds (λ c κs. search needs) (λ c κs. search needs) mul-usage (λ c. within _ _ (c .slot .ensures) (omega arith)) (λ c κs. search needs) (λ c κs. search needs) (λ c κs. search needs) (λ c κs. search needs) (λ c κs. search needs) (λ c κs. search needs) (λ c κs. search needs) add-number add-from (λ c. omega arith) (λ c κs. search needs) (λ c. omega arith) loop-again (λ c κs. search needs) mul-threads array-set-from-threads (λ c. omega arith) loop-again-2 (λ c κs. search needs) (λ c. c .before .before .loop .inv .kept) returns)
+put-records-spec = tie.close (tie.spec Inv-loop μ-loop (λ c κs. search needs) (λ c κs. search needs) loop-holds (λ c κs. search needs) (λ c κs. search needs) mul-usage (λ c. within _ _ (c .slot .ensures) (omega arith)) (λ c κs. search needs) (λ c κs. search needs) (λ c κs. search needs) (λ c κs. search needs) (λ c κs. search needs) (λ c κs. search needs) (λ c κs. search needs) add-number add-from (λ c. omega arith) (λ c κs. search needs) (λ c. omega arith) loop-again (λ c κs. search needs) mul-threads array-set-from-threads (λ c. omega arith) loop-again-2 (λ c κs. search needs) (λ c. c .before .before .loop .inv .kept) returns)

@@ -68,16 +68,22 @@ sed -e '/^target datalayout = /d' -e '/^target triple = /d' -e 's/^\(attributes 
 odd=$(grep -E '^target |"target-|x86|^module asm|[ (]asm |ptrtoint|inttoptr|(load|store) ptr' "$room/arm.ll" || true)
 [ -z "$odd" ] || fail 'the module has more of x86-64 in it:' "$odd"
 
+# compiled TRIPLE FLOAT OPTION OUT: the module for a target. The options are the kit's own for x86-64, but O2: it is smaller
+# here than O3.
+compiled() {
+    "$tools/bin/clang" --target="$1" -mfloat-abi="$2" -O2 -ffunction-sections -fdata-sections \
+        -mllvm -trap-unreachable -mllvm -no-trap-after-noreturn --no-default-config -fno-crash-diagnostics \
+        -Werror -Wno-override-module "$3" -x ir "$room/arm.ll" -o "$4"
+}
+
 # The kit's clang is several programs, told apart by name.
 ln -s "$tools/bin/clang" "$room/llvm-nm"
 : > "$room/sizes"
+: > "$room/instructions"
 while read -r name triple float; do
     dir=$out/$name
     mkdir "$dir"
-    # The options are the kit's own for x86-64, but O2: it is smaller here than O3.
-    "$tools/bin/clang" --target="$triple" -mfloat-abi="$float" -O2 -ffunction-sections -fdata-sections \
-        -mllvm -trap-unreachable -mllvm -no-trap-after-noreturn --no-default-config -fno-crash-diagnostics \
-        -Werror -Wno-override-module -c -x ir "$room/arm.ll" -o "$room/tickclock.o"
+    compiled "$triple" "$float" -c "$room/tickclock.o"
     "$tools/bin/llvm-ar" rcsD "$dir/libtickclock.a" "$room/tickclock.o"
     "$room/llvm-nm" -j --defined-only --extern-only "$room/tickclock.o" | sort | diff - "$room/names" ||
         fail "$name: the archive has other names"
@@ -87,6 +93,10 @@ while read -r name triple float; do
     "$room/llvm-nm" -S -t d --defined-only --extern-only "$room/tickclock.o" |
         awk -v target="$name" '{ print target, $4, $2 + 0 }' > "$room/size"
     cat "$room/size" >> "$room/sizes"
+    # In the assembly a label begins a function, and a line that begins with a tab and a letter is an instruction.
+    compiled "$triple" "$float" -S "$room/tickclock.s"
+    awk -v target="$name" '/^[a-z][a-z0-9_]*:/ { sub(/:.*/, ""); at = $0 } /^\t[a-z]/ { count[at]++ }
+        END { for (f in count) print target, f, count[f] }' "$room/tickclock.s" | sort >> "$room/instructions"
     awk -v name="$name" -v bytes="$(wc -c < "$dir/libtickclock.a")" -v calls="$(paste -s -d ' ' "$room/calls")" '
         { code += $3 } END { printf "target/firmware/%s/libtickclock.a: %d bytes, of code %d in %d functions; calls %s\n", name, bytes, code, NR, calls }
     ' "$room/size"
@@ -98,18 +108,24 @@ thumbv7em-hf thumbv7em-none-eabihf hard
 END
 
 mv "$out" target/firmware
-echo 'bytes of code in each function:'
-awk '
-    !($1 in column) { column[$1] = ++columns; head[columns] = $1 }
-    { size[$2, column[$1]] = $3 }
-    !($2 in seen) { seen[$2] = 1; row[++rows] = $2 }
-    END {
-        printf "%-46s", ""
-        for (c = 1; c <= columns; c++) printf " %12s", head[c]
-        print ""
-        for (r = 1; r <= rows; r++) {
-            printf "%-46s", row[r]
-            for (c = 1; c <= columns; c++) printf " %12d", size[row[r], c]
+# table FILE: a row for each function, a column for each target.
+table() {
+    awk '
+        !($1 in column) { column[$1] = ++columns; head[columns] = $1 }
+        { number[$2, column[$1]] = $3 }
+        !($2 in seen) { seen[$2] = 1; row[++rows] = $2 }
+        END {
+            printf "%-46s", ""
+            for (c = 1; c <= columns; c++) printf " %12s", head[c]
             print ""
-        }
-    }' "$room/sizes"
+            for (r = 1; r <= rows; r++) {
+                printf "%-46s", row[r]
+                for (c = 1; c <= columns; c++) printf " %12d", number[row[r], c]
+                print ""
+            }
+        }' "$1"
+}
+echo 'bytes of code in each function:'
+table "$room/sizes"
+echo 'instructions in each function:'
+table "$room/instructions"

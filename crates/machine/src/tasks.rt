@@ -9,7 +9,7 @@ use ledger::Operation;
 use trace::Record;
 use trace::Setup;
 
-// What is to be done with a sample's reading: it is told, or an operation of the ledger is entered at it.
+// What follows a sample: it is told, or an operation of the ledger is entered at its reading.
 pub enum Then {
     Tell,
     Operate(Operation),

@@ -20,7 +20,7 @@ mod codes;
 mod digits;
 
 // The longest line: three numbers of 20 digits, a code of 11 bytes and four bytes between and after them.
-const LINE_ROOM: usize = 75;
+pub const LINE_ROOM: usize = 75;
 
 pub enum Written {
     // The place after the text.

@@ -16,6 +16,7 @@ use counter::Counter;
 use error::Refusal;
 use ledger::Books;
 use ledger::Ledger;
+use lines::LINE_ROOM;
 use lines::Written;
 use lines::put_end;
 use lines::put_input;
@@ -29,9 +30,7 @@ use usage::ThreadUsage;
 // The most bytes that a trace may have.
 pub const MOST_BYTES: usize = 64000;
 
-// The longest line of a record, the longest lines after the last, and the line that turns a trace away.
-const LINE_ROOM: usize = 75;
-
+// The longest lines after the last record's, and the line that turns a trace away.
 const LAST_ROOM: usize = 55;
 
 const INPUT_ROOM: usize = 10;

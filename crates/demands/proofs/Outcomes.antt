@@ -141,8 +141,10 @@ use Rattle.machine.proofs.Reason.refusal.Reads as machine-Reason-refusal
 use Rattle.machine.proofs.Outcome.number.Reads as machine-Outcome-number
 use Rattle.machine.proofs.Outcome.x.Reads as machine-Outcome-x
 use Rattle.machine.proofs.Outcome.y.Reads as machine-Outcome-y
-use Rattle.machine.proofs.core_step.Reads as machine-core-step
-use Rattle.machine.proofs.slot.Reads as machine-slot
+use Rattle.machine.proofs.begin.Reads as machine-begin
+use Rattle.machine.proofs.begin_at.Reads as machine-begin-at
+use Rattle.machine.proofs.place.Reads as machine-place
+use Rattle.machine.proofs.finish.Reads as machine-finish
 use Rattle.machine.proofs.Machine.core.Reads as machine-Machine-core
 use Rattle.machine.proofs.step.Reads as machine-step
 use Rattle.machine.proofs.fresh.Reads as machine-fresh
@@ -384,12 +386,16 @@ pub machine-outcomes :
     OneOutcome machine-Outcome-number.Post ×
     OneOutcome machine-Outcome-x.Post ×
     OneOutcome machine-Outcome-y.Post ×
-    OneOutcome machine-core-step.Post ×
-    OneOutcome machine-slot.Post ×
+    OneOutcome machine-begin.Post ×
+    OneOutcome machine-begin-at.Post ×
+    OneOutcome machine-place.Post ×
+    OneOutcome machine-finish.Post ×
     OneOutcome machine-Machine-core.Post ×
     OneOutcome machine-step.Post ×
     OneOutcome machine-fresh.Post
 machine-outcomes = (
+  once _,
+  once _,
   once _,
   once _,
   once _,

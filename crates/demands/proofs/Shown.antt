@@ -13,14 +13,14 @@ use Rattle.ledger.specs.Entries.{runs, charged, withChange, onward, closeOf, st
 use Rattle.ledger.specs.Operate.{unrecorded, past, busy, entryOf, concerned, storedIn, operateOf}
 use Rattle.ledger.specs.Sums.{sumOf}
 use Rattle.ledger.specs.Run as ledger
-use Rattle.machine.specs.Task.{taskOf, askedBy, threadOf}
+use Rattle.machine.specs.Task.{taskOf, askedBy}
 use Rattle.machine.specs.Table.{malformed, crowded}
-use Rattle.machine.specs.Step.{enteredStep, announcedStep, effectOf, taskStep, decodedStep, coreStepOf, decodedThread, slotOf, stepOf}
+use Rattle.machine.specs.Step.{announcedBegun, effectOf, taskBegun, decodedBegun, beginOf, nextThread, placeOf, enteredStep, finishNext, stepOf}
 use Rattle.demands.specs.Trace.{afterTouch, happened, seen, watchAll, FairTrace}
 use Rattle.demands.specs.Shown.{Shown}
 
 pub shown : Shown
-unfolding enabled accumulated averageCycles announceDecide cycle runN wraps goodPeriod inRange ranOf wellFormed sampleOf announceOf announcedBy stampOf runs charged withChange onward closeOf stopOf switchOf altered reopenOf alterOf enterOf unrecorded past busy entryOf concerned storedIn operateOf sumOf ledger.closesNow ledger.begins ledger.openAfter ledger.trackedAfter taskOf askedBy threadOf malformed crowded enteredStep announcedStep effectOf taskStep decodedStep coreStepOf decodedThread slotOf stepOf afterTouch happened seen watchAll FairTrace
+unfolding enabled accumulated averageCycles announceDecide cycle runN wraps goodPeriod inRange ranOf wellFormed sampleOf announceOf announcedBy stampOf runs charged withChange onward closeOf stopOf switchOf altered reopenOf alterOf enterOf unrecorded past busy entryOf concerned storedIn operateOf sumOf ledger.closesNow ledger.begins ledger.openAfter ledger.trackedAfter taskOf askedBy malformed crowded stepOf afterTouch happened seen watchAll FairTrace announcedBegun effectOf taskBegun decodedBegun beginOf nextThread placeOf enteredStep finishNext
 shown = record {
   printed-fair = (omega arith, (omega arith, (omega arith, (omega arith, (omega arith, (omega arith, (omega arith, (omega arith, (omega arith, (omega arith, tt))))))))));
   printed-reads = (refl, refl);

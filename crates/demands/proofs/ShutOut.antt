@@ -27,9 +27,9 @@ use Rattle.machine.specs.declared.Machine.{Machine}
 use Rattle.machine.specs.declared.Values.{Values}
 use Rattle.machine.specs.declared.Outcome.the-variants as Told
 use Rattle.machine.specs.declared.Reason.the-variants as Why
-use Rattle.machine.specs.Task.{taskOf, askedBy, threadOf}
+use Rattle.machine.specs.Task.{taskOf, askedBy}
 use Rattle.machine.specs.Table.{malformed, crowded}
-use Rattle.machine.specs.Step.{enteredStep, announcedStep, effectOf, taskStep, decodedStep, coreStepOf, decodedThread, slotOf, freshMachine, stepOf}
+use Rattle.machine.specs.Step.{announcedBegun, effectOf, taskBegun, decodedBegun, beginOf, nextThread, placeOf, enteredStep, finishNext, freshMachine, stepOf}
 use Rattle.machine.specs.Laws.{recordRows, lastRows}
 use Rattle.machine.specs.Answers.{values, answerTo, leftBy}
 use Rattle.machine.specs.Shown as handed
@@ -42,7 +42,7 @@ ten : GoodSetup 10 4
 ten = record { least = omega arith; most = omega arith; ticks = omega arith }
 
 pub shut-out : ShutOut
-unfolding enabled accumulated averageCycles announceDecide cycle runN wraps goodPeriod inRange ranOf wellFormed sampleOf announceOf announcedBy stampOf runs charged withChange onward closeOf stopOf switchOf altered reopenOf alterOf enterOf unrecorded past busy entryOf concerned storedIn operateOf sumOf ledger.closesNow ledger.begins ledger.openAfter ledger.trackedAfter taskOf askedBy threadOf malformed crowded enteredStep announcedStep effectOf taskStep decodedStep coreStepOf decodedThread slotOf stepOf recordRows lastRows answerTo leftBy afterTouch happened seen watchAll FairTrace
+unfolding enabled accumulated averageCycles announceDecide cycle runN wraps goodPeriod inRange ranOf wellFormed sampleOf announceOf announcedBy stampOf runs charged withChange onward closeOf stopOf switchOf altered reopenOf alterOf enterOf unrecorded past busy entryOf concerned storedIn operateOf sumOf ledger.closesNow ledger.begins ledger.openAfter ledger.trackedAfter taskOf askedBy malformed crowded stepOf recordRows lastRows answerTo leftBy afterTouch happened seen watchAll FairTrace announcedBegun effectOf taskBegun decodedBegun beginOf nextThread placeOf enteredStep finishNext
 shut-out = record {
   refuser-falls = λ law.
       let accepted = law .exactly (handed.timed (handed.counter 10 10 false 0) (handed.clock 4 0 0 0)) (D.Accepted (K.Run 0)) .accepted .1 (refl, (refl, (refl, (refl, (refl, (refl, (refl, (refl, tt)))))))) in

@@ -9,7 +9,6 @@ use Rattle.error.specs.declared.Refusal.{Refusal}
 use Rattle.error.specs.Numbers.{max32, max64}
 use Rattle.error.specs.InOrder.{NoneHolds}
 use Rattle.error.proofs.Ordered.{accepts, refuses, accepted-only, refused-only}
-use Rattle.usage.specs.declared.ThreadUsage.{ThreadUsage}
 use Rattle.counter.specs.Entries.{goodPeriod}
 use Rattle.counter.proofs.Outcomes.{ran-on, in-range-of}
 use Rattle.clock.specs.declared.Gaps.{Gaps}
@@ -32,7 +31,7 @@ use Rattle.machine.specs.declared.Reason.{Reason}
 use Rattle.machine.specs.declared.table.Verdict.{Verdict}
 use Rattle.machine.specs.declared.table.Verdict.the-variants as D
 use Rattle.machine.specs.Table.{malformed, crowded, table, testedOf}
-use Rattle.machine.specs.Step.{turned, effectOf, taskStep}
+use Rattle.machine.specs.Step.{turned, effectOf, taskBegun}
 use Rattle.machine.specs.Accepts.{Samples, SetsUp, Accepts}
 
 -- an answer that is accepted is not refused, and holds what it was accepted with
@@ -92,15 +91,15 @@ module _ (c : Core) (slots : ℕ) (whole : malformed c slots ≡ false) where
 pub accepts-as : (c : Core) {task case : Task} → task ≡ case → Accepts c task → Accepts c case
 accepts-as c e h = subst (Accepts c) e h
 
-module _ (c : Core) (u : ThreadUsage) (slots : ℕ) (task : Task) {asked : Asked} {verdict : Verdict} (tests : verdict ≡ testedOf c asked) (asks : asked ≡ askedBy (c .books) slots task) where
+module _ (c : Core) (slots : ℕ) (task : Task) {asked : Asked} {verdict : Verdict} (tests : verdict ≡ testedOf c asked) (asks : asked ≡ askedBy (c .books) slots task) where
   pub passed-all : verdict ≡ D.Passed → NoneHolds (table c (askedBy (c .books) slots task))
   unfolding testedOf
   passed-all e = accepted-only D.Refused D.Passed (λ why q. clash (cc)) (table c (askedBy (c .books) slots task)) (ap (testedOf c) (sym asks) ∙ (sym tests ∙ e))
 
-  pub passes : verdict ≡ D.Passed → effectOf c u task ≡ taskStep c u slots task
-  unfolding taskStep
-  passes e = sym (accepts (turned c u) (effectOf c u task) (table c (askedBy (c .books) slots task)) (passed-all e))
+  pub passes : verdict ≡ D.Passed → effectOf c task ≡ taskBegun c slots task
+  unfolding taskBegun
+  passes e = sym (accepts (turned c) (effectOf c task) (table c (askedBy (c .books) slots task)) (passed-all e))
 
-  pub fails : {why : Reason} → verdict ≡ D.Refused why → turned c u why ≡ taskStep c u slots task
-  unfolding testedOf taskStep
-  fails e = sym (refuses (turned c u) (effectOf c u task) (table c (askedBy (c .books) slots task)) _ (refused-only D.Refused D.Passed (λ why q. clash (cc)) (λ r s q. cc) (table c (askedBy (c .books) slots task)) _ (ap (testedOf c) (sym asks) ∙ (sym tests ∙ e))))
+  pub fails : {why : Reason} → verdict ≡ D.Refused why → turned c why ≡ taskBegun c slots task
+  unfolding testedOf taskBegun
+  fails e = sym (refuses (turned c) (effectOf c task) (table c (askedBy (c .books) slots task)) _ (refused-only D.Refused D.Passed (λ why q. clash (cc)) (λ r s q. cc) (table c (askedBy (c .books) slots task)) _ (ap (testedOf c) (sym asks) ∙ (sym tests ∙ e))))

@@ -41,9 +41,9 @@ use Rattle.machine.specs.declared.Machine.{Machine}
 use Rattle.machine.specs.declared.Values.{Values}
 use Rattle.machine.specs.declared.Outcome.the-variants as O
 use Rattle.machine.specs.declared.tasks.Task.{Task}
-use Rattle.machine.specs.Task.{taskOf, askedBy, threadOf}
+use Rattle.machine.specs.Task.{taskOf, askedBy}
 use Rattle.machine.specs.Table.{table}
-use Rattle.machine.specs.Step.{enteredStep, announcedStep, effectOf, decodedThread, slotOf, coreOf, stepOf}
+use Rattle.machine.specs.Step.{announcedBegun, effectOf, nextThread, placeOf, enteredStep, finishNext, coreOf, stepFrom, stepOf}
 use Rattle.machine.specs.Laws.{Operates, EveryAnswer}
 use Rattle.machine.specs.Answers.{values, announces, closed, answerTo, operatedOn, leftBy}
 use Rattle.machine.proofs.Accepting.{ready-of}
@@ -75,11 +75,11 @@ module _ (m : Machine) (answered : Values) where
   entered-answer there b u now op (E.Accepted e) q a = let is : answered ≡ values (e .cycles) 0 = cc in is ∙ ap (λ (n : ℕ). values n 0) (entry-is b u now op e q .cycles)
   entered-answer there b u now op (E.Refused why) q a = clash (cc)
 
-  effect-told : (r : Record) → Touches m r → stepOf m (D.Accepted r) .outcome ≡ O.Accepted answered → effectOf (coreOf m) (recordOf (m .ledger) (slotOf (coreOf m) slots (D.Accepted r))) (taskOf r) .outcome ≡ O.Accepted answered
+  effect-told : (r : Record) → Touches m r → stepOf m (D.Accepted r) .outcome ≡ O.Accepted answered → stepFrom (m .ledger .threads) (effectOf (coreOf m) (taskOf r)) .outcome ≡ O.Accepted answered
   effect-told r t e = sym (ap (λ s. s .outcome) (had m r t)) ∙ e
 
   operation : (r : Record) (g : Gaps) (o : Operates r g) → Touches m r → stepOf m (D.Accepted r) .outcome ≡ O.Accepted answered → answered ≡ closed m (o .0) g
-  unfolding effectOf slotOf decodedThread threadOf askedBy
+  unfolding effectOf nextThread placeOf finishNext askedBy
   operation r g o t e =
       let op = o .0 in
       let none = subst (λ (task : Task). NoneHolds (table (coreOf m) (askedBy (m .ledger .books) slots task))) (o .1) (t .none) in
@@ -89,21 +89,21 @@ module _ (m : Machine) (answered : Values) where
       let outcome = rw (o .1, slot, free) at (effect-told r t e) in
       entered-answer _ (m .ledger .books) (recordOf (m .ledger) (concerned (m .ledger .books) op)) (stampOf (readingOf (m .timer) g)) op _ refl outcome
 
-  announced : (x : Announced) → announceOf (m .timer) ≡ x → announcedStep (coreOf m) (recordOf (m .ledger) (slotOf (coreOf m) slots (D.Accepted K.Announce))) x .outcome ≡ O.Accepted answered → answered ≡ answerTo m K.Announce
-  unfolding announcedStep answerTo
+  announced : (x : Announced) → announceOf (m .timer) ≡ x → stepFrom (m .ledger .threads) (announcedBegun (coreOf m) x) .outcome ≡ O.Accepted answered → answered ≡ answerTo m K.Announce
+  unfolding announcedBegun finishNext answerTo
   announced (A.Accepted a) q e =
       let is : answered ≡ values (a .dticks .0) (a .timer .clock .announced .0) = cc in
       is ∙ ap (λ (x : Announcement). values (x .dticks .0) (x .timer .clock .announced .0)) (announcement-is (m .timer) a q)
   announced (A.Refused why) q e = clash (cc)
 
   reported : (i : ℕ) → Touches m (K.Report i) → stepOf m (D.Accepted (K.Report i)) .outcome ≡ O.Accepted answered → answered ≡ answerTo m (K.Report i)
-  unfolding effectOf answerTo taskOf slotOf decodedThread threadOf askedBy
+  unfolding effectOf answerTo taskOf nextThread placeOf finishNext askedBy
   reported i t e =
       let told = rw (lt-ltb i slots (leb-false slots i (t .none .1 .1 .1 .0))) at (effect-told (K.Report i) t e) in
       cc
 
   answer-of : (r : Record) → Touches m r → stepOf m (D.Accepted r) .outcome ≡ O.Accepted answered → answered ≡ answerTo m r
-  unfolding effectOf answerTo taskOf
+  unfolding effectOf answerTo taskOf finishNext
   answer-of (K.Run p) t e = let told = effect-told (K.Run p) t e in cc
   answer-of (K.Sample g) t e = let told = effect-told (K.Sample g) t e in cc
   answer-of K.Announce t e = announced (announceOf (m .timer)) refl (effect-told K.Announce t e)
@@ -116,8 +116,8 @@ module _ (m : Machine) (answered : Values) where
   answer-of (K.Setup s) t e = let told = effect-told (K.Setup s) t e in cc
 
   -- an accepted announcement was accepted by its leaf
-  leaf-announced : (x : Announced) → announceOf (m .timer) ≡ x → announcedStep (coreOf m) (recordOf (m .ledger) (slotOf (coreOf m) slots (D.Accepted K.Announce))) x .outcome ≡ O.Accepted answered → announceOf (m .timer) ≡ A.Accepted (announcementFrom (m .timer) (announces m))
-  unfolding announcedStep
+  leaf-announced : (x : Announced) → announceOf (m .timer) ≡ x → stepFrom (m .ledger .threads) (announcedBegun (coreOf m) x) .outcome ≡ O.Accepted answered → announceOf (m .timer) ≡ A.Accepted (announcementFrom (m .timer) (announces m))
+  unfolding announcedBegun finishNext
   leaf-announced (A.Accepted a) q e = q ∙ ap A.Accepted (announcement-is (m .timer) a q)
   leaf-announced (A.Refused why) q e = clash (cc)
 

@@ -25,7 +25,7 @@ use Rattle.trace.specs.declared.Record.the-variants as K
 use Rattle.trace.specs.declared.Decoded.{Decoded}
 use Rattle.trace.specs.declared.Decoded.the-variants as D
 use Rattle.machine.specs.declared.Core.{Core}
-use Rattle.machine.specs.declared.CoreStep.{CoreStep}
+use Rattle.machine.specs.declared.Begun.{Begun}
 use Rattle.machine.specs.declared.Machine.{Machine}
 use Rattle.machine.specs.declared.Reason.{Reason}
 use Rattle.machine.specs.declared.Reason.the-variants as Why
@@ -35,57 +35,10 @@ use Rattle.machine.specs.declared.tasks.Task.the-variants as T
 use Rattle.machine.specs.declared.tasks.Then.the-variants as W
 use Rattle.machine.specs.Task.{taskOf, askedBy}
 use Rattle.machine.specs.Table.{malformed, table}
-use Rattle.machine.specs.Step.{turned, enteredStep, announcedStep, effectOf, taskStep, decodedStep, coreStepOf, slotOf, coreOf, machineOf, steppedFrom, stepOf}
+use Rattle.machine.specs.Step.{turned, announcedBegun, effectOf, taskBegun, decodedBegun, beginOf, enteredStep, finishNext, placeOf, coreOf, machineOf, steppedFrom, stepFrom, stepOf}
 use Rattle.machine.specs.Laws.{announceRows, lastRows, recordRows, everyRow, Operates, EveryRefusal}
 use Rattle.machine.specs.Answers.{answerTo, timed}
 use Rattle.machine.proofs.Refusing.{exactly}
-
--- a step that is refused for anything but a sum or window changes neither core nor record
-abbrev Stays : Core → ThreadUsage → CoreStep → Type 0
-Stays c u s = (why : Reason) → s .outcome ≡ O.Refused why → (why ≡ Why.WontFit → ⊥) → (s .core ≡ c) × (s .usage ≡ u) × (s .fresh ≡ false)
-
-module _ (c : Core) (u : ThreadUsage) where
-  turned-stays : (why : Reason) → Stays c u (turned c u why)
-  turned-stays why other e n = (refl, refl, refl)
-
-  entered-stays : (there : Core) (x : Entered) → Stays c u (enteredStep there u x)
-  unfolding enteredStep
-  entered-stays there (E.Accepted e) why q n = clash (cc)
-  entered-stays there (E.Refused w) why q n = absurd (n (cc))
-
-  announced-stays : (x : Announced) → Stays c u (announcedStep c u x)
-  unfolding announcedStep
-  announced-stays (A.Accepted a) why q n = clash (cc)
-  announced-stays (A.Refused w) why q n = (refl, refl, refl)
-
-  effect-stays : (task : Task) → Stays c u (effectOf c u task)
-  unfolding effectOf
-  effect-stays (T.Run p) why q n = clash (cc)
-  effect-stays (T.Sample g W.Tell) why q n = clash (cc)
-  effect-stays (T.Sample g (W.Operate op)) why q n = entered-stays _ _ why q n
-  effect-stays T.Announce why q n = announced-stays _ why q n
-  effect-stays (T.Report i) why q n = clash (cc)
-  effect-stays (T.Setup s) why q n = clash (cc)
-
-  record-stays : (slots : ℕ) (d : Decoded) → Stays c u (decodedStep c u slots d)
-  unfolding decodedStep taskStep
-  record-stays slots (D.Accepted r) = by-outcome (turned c u) _ (Stays c u) (table c (askedBy (c .books) slots (taskOf r))) turned-stays (λ none. effect-stays (taskOf r))
-  record-stays slots (D.Refused why) = turned-stays Why.BadRecord
-
-  core-stays : (slots : ℕ) (d : Decoded) → Stays c u (coreStepOf c u slots d)
-  unfolding coreStepOf
-  core-stays slots d = by-outcome (turned c u) _ (Stays c u) ((malformed c slots, Why.Malformed) ∷ []) turned-stays (λ none. record-stays slots d)
-
--- a record put back where it was
-put-back : (m : Machine) (k : ℕ) (s : CoreStep) → (s .core ≡ coreOf m) × (s .usage ≡ recordOf (m .ledger) k) × (s .fresh ≡ false) → steppedFrom (m .ledger .threads) k s .machine ≡ m
-put-back m k s h = rw (h .0, h .1, h .2) (ap (machineOf (coreOf m)) (set-getD (m .ledger .threads) k newIdle))
-
-untouched : (m : Machine) (d : Decoded) (why : Reason) → stepOf m d .outcome ≡ O.Refused why → (why ≡ Why.WontFit → ⊥) → stepOf m d .machine ≡ m
-unfolding stepOf
-untouched m d why e n =
-    let k = slotOf (coreOf m) (length (m .ledger .threads)) d in
-    put-back m k (coreStepOf (coreOf m) (recordOf (m .ledger) k) (length (m .ledger .threads)) d)
-    (core-stays (coreOf m) (recordOf (m .ledger) k) (length (m .ledger .threads)) d why e n)
 
 -- rows that have another reason leave the first that holds to those after them
 unfoldable pub Others : Reason → List (Row Reason) → Type 0
@@ -108,6 +61,42 @@ module _ (m : Machine) where
   abbrev rowsOf : Task → List (Row Reason)
   rowsOf task = table c (askedBy (m .ledger .books) slots task)
 
+  -- what is refused for anything but a sum or window leaves the machine
+  abbrev Stays : Begun → Type 0
+  Stays s = (why : Reason) → stepFrom (m .ledger .threads) s .outcome ≡ O.Refused why → (why ≡ Why.WontFit → ⊥) → stepFrom (m .ledger .threads) s .machine ≡ m
+
+  turned-stays : (why : Reason) → Stays (turned c why)
+  unfolding finishNext
+  turned-stays why other e n = ap (machineOf c) (set-getD (m .ledger .threads) (placeOf (turned c why) slots) newIdle)
+
+  entered-stays : (there : Core) (k : ℕ) (u : ThreadUsage) (x : Entered) (why : Reason) → enteredStep there u x .outcome ≡ O.Refused why → (why ≡ Why.WontFit → ⊥) → steppedFrom (m .ledger .threads) k (enteredStep there u x) .machine ≡ m
+  unfolding enteredStep
+  entered-stays there k u (E.Accepted e) why q n = clash (cc)
+  entered-stays there k u (E.Refused w) why q n = absurd (n (cc))
+
+  announced-stays : (x : Announced) → Stays (announcedBegun c x)
+  unfolding announcedBegun finishNext
+  announced-stays (A.Accepted a) why q n = clash (cc)
+  announced-stays (A.Refused w) why q n = turned-stays (Why.NotAnnounced w) why q n
+
+  effect-stays : (task : Task) → Stays (effectOf c task)
+  unfolding effectOf finishNext
+  effect-stays (T.Run p) why q n = clash (cc)
+  effect-stays (T.Sample g W.Tell) why q n = clash (cc)
+  effect-stays (T.Sample g (W.Operate op)) why q n = entered-stays _ _ _ _ why q n
+  effect-stays T.Announce why q n = announced-stays _ why q n
+  effect-stays (T.Report i) why q n = clash (cc)
+  effect-stays (T.Setup s) why q n = clash (cc)
+
+  record-stays : (d : Decoded) → Stays (decodedBegun c slots d)
+  unfolding decodedBegun taskBegun
+  record-stays (D.Accepted r) = by-outcome (turned c) _ Stays (rowsOf (taskOf r)) turned-stays (λ none. effect-stays (taskOf r))
+  record-stays (D.Refused why) = turned-stays Why.BadRecord
+
+  untouched : (d : Decoded) (why : Reason) → stepOf m d .outcome ≡ O.Refused why → (why ≡ Why.WontFit → ⊥) → stepOf m d .machine ≡ m
+  unfolding stepOf beginOf
+  untouched d = by-outcome (turned c) _ Stays ((malformed c slots, Why.Malformed) ∷ []) turned-stays (λ none. record-stays d)
+
   -- no row of the table, nor the malformed state, is a sum that won't fit
   pub passed : (r : Record) → FirstIs (everyRow m (D.Accepted r)) Why.WontFit → (malformed c slots ≡ false) × NoneHolds (rowsOf (taskOf r)) × FirstIs (lastRows m (taskOf r)) Why.WontFit
   unfolding recordRows Others
@@ -117,9 +106,9 @@ module _ (m : Machine) where
       (later .0, rest .0, rest .1)
 
   -- what passes has its effect
-  pub effect-had : (r : Record) → malformed c slots ≡ false → NoneHolds (rowsOf (taskOf r)) → (k : ℕ) → k ≡ slotOf c slots (D.Accepted r) → stepOf m (D.Accepted r) ≡ steppedFrom (m .ledger .threads) k (effectOf c (recordOf (m .ledger) k) (taskOf r))
-  unfolding stepOf coreStepOf decodedStep taskStep
-  effect-had r whole none k e = rw (e, whole, accepts (turned c (recordOf (m .ledger) (slotOf c slots (D.Accepted r)))) (effectOf c (recordOf (m .ledger) (slotOf c slots (D.Accepted r))) (taskOf r)) (rowsOf (taskOf r)) none) refl
+  pub effect-had : (r : Record) → malformed c slots ≡ false → NoneHolds (rowsOf (taskOf r)) → stepOf m (D.Accepted r) ≡ stepFrom (m .ledger .threads) (effectOf c (taskOf r))
+  unfolding stepOf beginOf decodedBegun taskBegun
+  effect-had r whole none = rw (whole, accepts (turned c) (effectOf c (taskOf r)) (rowsOf (taskOf r)) none) refl
 
   -- the sample that an operation takes is kind 1's
   entered-timer : (there : Core) (u : ThreadUsage) (x : Entered) → enteredStep there u x .core .timer ≡ there .timer
@@ -133,12 +122,12 @@ module _ (m : Machine) where
   entered-ready there u (E.Refused why) = refl
 
   pub operated-timer : (r : Record) (op : Operation) (g : Gaps) → taskOf r ≡ T.Sample g (W.Operate op) → malformed c slots ≡ false → NoneHolds (rowsOf (taskOf r)) → stepOf m (D.Accepted r) .machine .timer ≡ sampleValue (m .timer) g .timer
-  unfolding effectOf
-  operated-timer r op g e whole none = rw (effect-had r whole none _ refl, e) (entered-timer _ _ _)
+  unfolding effectOf finishNext
+  operated-timer r op g e whole none = rw (effect-had r whole none, e) (entered-timer _ _ _)
 
   pub sampled-timer : (g : Gaps) → malformed c slots ≡ false → NoneHolds (rowsOf (T.Sample g W.Tell)) → stepOf m (D.Accepted (K.Sample g)) .machine .timer ≡ sampleValue (m .timer) g .timer
-  unfolding effectOf taskOf
-  sampled-timer g whole none = ap (λ s. s .machine .timer) (effect-had (K.Sample g) whole none _ refl)
+  unfolding effectOf taskOf finishNext
+  sampled-timer g whole none = ap (λ s. s .machine .timer) (effect-had (K.Sample g) whole none)
 
   -- the tests of an operation are those of its sample, and more
   pub sample-passes : (op : Operation) (g : Gaps) → NoneHolds (rowsOf (T.Sample g (W.Operate op))) → NoneHolds (rowsOf (T.Sample g W.Tell))
@@ -152,18 +141,18 @@ module _ (m : Machine) where
   entered-kept there k (E.Refused why) b q = rw (b, set-getD (m .ledger .threads) k newIdle) refl
 
   refused-ledger : (r : Record) (op : Operation) (g : Gaps) → taskOf r ≡ T.Sample g (W.Operate op) → malformed c slots ≡ false → NoneHolds (rowsOf (taskOf r)) → stepOf m (D.Accepted r) .outcome ≡ O.Refused Why.WontFit → stepOf m (D.Accepted r) .machine .ledger ≡ m .ledger
-  unfolding effectOf
+  unfolding effectOf finishNext
   refused-ledger r op g e whole none q =
-      let had = effect-had r whole none _ refl in
+      let had = effect-had r whole none in
       rw (had, e) (entered-kept _ _ _ refl (rw (had, e) at q))
 
   sampled-outcome : (g : Gaps) → malformed c slots ≡ false → NoneHolds (rowsOf (T.Sample g W.Tell)) → stepOf m (D.Accepted (K.Sample g)) .outcome ≡ O.Accepted (answerTo m (K.Sample g))
-  unfolding effectOf taskOf answerTo
-  sampled-outcome g whole none = ap (λ s. s .outcome) (effect-had (K.Sample g) whole none _ refl)
+  unfolding effectOf taskOf finishNext answerTo
+  sampled-outcome g whole none = ap (λ s. s .outcome) (effect-had (K.Sample g) whole none)
 
   pub stays-ready : (r : Record) (op : Operation) (g : Gaps) → taskOf r ≡ T.Sample g (W.Operate op) → malformed c slots ≡ false → NoneHolds (rowsOf (taskOf r)) → stepOf m (D.Accepted r) .machine .ready ≡ m .ready
-  unfolding effectOf
-  stays-ready r op g e whole none = rw (effect-had r whole none _ refl, e) (entered-ready _ _ _)
+  unfolding effectOf finishNext
+  stays-ready r op g e whole none = rw (effect-had r whole none, e) (entered-ready _ _ _)
 
   kept-sample : (d : Decoded) (r : Record) (g : Gaps) → d ≡ D.Accepted r → Operates r g → stepOf m d .outcome ≡ O.Refused Why.WontFit → (stepOf m d .machine ≡ timed m (stepOf m (D.Accepted (K.Sample g)) .machine .timer)) × (stepOf m (D.Accepted (K.Sample g)) .outcome ≡ O.Accepted (answerTo m (K.Sample g)))
   kept-sample d r g ed operates e =

@@ -7,10 +7,9 @@ use lib.Dec.{ltb}
 use borrow.Author.Tests.{ltb-true, ltb-false, lt-ltb, le-ltb}
 use Rattle.error.specs.Numbers.{max32, max64}
 use Rattle.clock.specs.declared.Timer.{Timer}
-use Rattle.trace.specs.declared.Decoded.{Decoded}
-use Rattle.machine.specs.declared.Core.{Core}
+use Rattle.machine.specs.declared.Begun.{Begun}
 use Rattle.machine.specs.Table.{crowded}
-use Rattle.machine.specs.Step.{decodedThread, slotOf}
+use Rattle.machine.specs.Step.{nextThread, placeOf}
 
 -- two tests that hold of the same numbers are one
 pub same-test : (a b c d : ℕ) → (a < b → c < d) → (b ≤ a → d ≤ c) → ltb a b ≡ ltb c d
@@ -29,13 +28,13 @@ module _ (t : Timer) where
   passing cycles room h e = same-test room (t .counter .cycles .0) max64 (t .counter .cycles .0 + cycles) (λ k. omega arith) (λ k. omega arith)
 
 -- the slot is in every table that has one
-pub inside : (c : Core) (slots : ℕ) (d : Decoded) → 0 < slots → slotOf c slots d < slots
-unfolding slotOf
-inside c slots d h = by-test (ltb (decodedThread (c .books) d) slots) refl
+pub inside : (s : Begun) (slots : ℕ) → 0 < slots → placeOf s slots < slots
+unfolding placeOf
+inside s slots h = by-test (ltb (nextThread (s .core .books) (s .next)) slots) refl
   where
-    by-test : (t : Bool) → ltb (decodedThread (c .books) d) slots ≡ t → cond t (decodedThread (c .books) d) 0 < slots
+    by-test : (t : Bool) → ltb (nextThread (s .core .books) (s .next)) slots ≡ t → cond t (nextThread (s .core .books) (s .next)) 0 < slots
     by-test true e = ltb-true _ _ e
     by-test false e = h
 
-pub within : {k slots : ℕ} (c : Core) (d : Decoded) → k ≡ slotOf c slots d → 0 < slots → k < slots
-within c d e h = rw e (inside c _ d h)
+pub within : {k slots : ℕ} (s : Begun) → k ≡ placeOf s slots → 0 < slots → k < slots
+within s e h = rw e (inside s _ h)

@@ -2,12 +2,12 @@
 use Prim.Native.Nat.{ℕ, _<_}
 use mathlib.Core.Path.{_≡_, refl, sym, ap, _∙_}
 use mathlib.Core.Bool.{Bool, true, false, cond, not, _&&_, _||_, false≢true}
-use mathlib.Core.List.{[], _∷_}
+use mathlib.Core.List.{List, [], _∷_}
 use lib.ListN.{length}
 use lib.Dec.{ltb, leb, eqb}
 use borrow.Author.Tests.{leb-false, lt-ltb}
 use Rattle.error.proofs.Tests.{clash}
-use Rattle.error.specs.InOrder.{inOrder, NoneHolds}
+use Rattle.error.specs.InOrder.{Row, inOrder, NoneHolds}
 use Rattle.error.proofs.Ordered.{accepts, refuses, accepted-only, refused-only, carried, same-answer, in-turn}
 use Rattle.usage.specs.declared.ThreadUsage.{ThreadUsage}
 use Rattle.clock.specs.declared.Announced.{Announced}
@@ -25,7 +25,7 @@ use Rattle.ledger.proofs.Refusing.{EntryBy, entry-by}
 use Rattle.trace.specs.declared.Decoded.{Decoded}
 use Rattle.trace.specs.declared.Decoded.the-variants as D
 use Rattle.machine.specs.declared.Core.{Core}
-use Rattle.machine.specs.declared.CoreStep.{CoreStep}
+use Rattle.machine.specs.declared.Begun.{Begun}
 use Rattle.machine.specs.declared.Machine.{Machine}
 use Rattle.machine.specs.declared.Reason.{Reason}
 use Rattle.machine.specs.declared.Reason.the-variants as Why
@@ -37,9 +37,9 @@ use Rattle.machine.specs.declared.tasks.Task.the-variants as T
 use Rattle.machine.specs.declared.tasks.Then.the-variants as W
 use Rattle.machine.specs.declared.table.Verdict.{Verdict}
 use Rattle.machine.specs.declared.table.Verdict.the-variants as Y
-use Rattle.machine.specs.Task.{taskOf, askedBy, threadOf}
+use Rattle.machine.specs.Task.{taskOf, askedBy}
 use Rattle.machine.specs.Table.{malformed, table}
-use Rattle.machine.specs.Step.{turned, enteredStep, announcedStep, effectOf, taskStep, decodedStep, coreStepOf, decodedThread, slotOf, coreOf, stepOf}
+use Rattle.machine.specs.Step.{turned, announcedBegun, effectOf, taskBegun, decodedBegun, beginOf, nextThread, placeOf, enteredStep, finishNext, coreOf, stepFrom, stepOf}
 use Rattle.machine.proofs.Accepting.{ready-of}
 use Rattle.machine.specs.Laws.{announceRows, lastRows, recordRows, everyRow, Exactly}
 
@@ -85,43 +85,52 @@ unfolding verdictOf enteredStep EntryBy
 entered-verdict c u t (E.Accepted e) h = rw h refl
 entered-verdict c u t (E.Refused why) h = rw (h .1) refl
 
-announced-verdict : (c : Core) (u : ThreadUsage) (x : Announced) → verdictOf (announcedStep c u x .outcome) ≡ inOrder (announceRows x) Y.Refused Y.Passed
-unfolding verdictOf announcedStep announceRows
-announced-verdict c u (A.Accepted a) = refl
-announced-verdict c u (A.Refused why) = refl
-
 -- of the effect, the last rows
-effect-verdict : (m : Machine) (task : Task) → let c = coreOf m in malformed c (length (m .ledger .threads)) ≡ false → NoneHolds (table c (askedBy (m .ledger .books) (length (m .ledger .threads)) task)) → (k : ℕ) → k ≡ cond (ltb (threadOf (m .ledger .books) task) (length (m .ledger .threads))) (threadOf (m .ledger .books) task) 0 → verdictOf (effectOf c (recordOf (m .ledger) k) task .outcome) ≡ inOrder (lastRows m task) Y.Refused Y.Passed
-unfolding effectOf lastRows verdictOf askedBy threadOf
-effect-verdict m (T.Run p) whole none k e = refl
-effect-verdict m (T.Sample g W.Tell) whole none k e = refl
-effect-verdict m (T.Sample g (W.Operate op)) whole none k e =
-    rw (
-      e ∙ slot-is (m .ledger .books) op (length (m .ledger .threads)) (recorded-of (coreOf m) (length (m .ledger .threads)) (ready-of (m .ready) (none .1 .0)) whole) (none .1 .1 .1 .0),
-      entry-free (m .ledger .books) (recordOf (m .ledger) (concerned (m .ledger .books) op)) (sampleValue (m .timer) g .reading) op (none .1 .1 .1 .1 .0),
-    )
-    (entered-verdict _ _ _ _ (entry-by (m .ledger .books) (recordOf (m .ledger) (concerned (m .ledger .books) op)) _ op))
-effect-verdict m T.Announce whole none k e = announced-verdict _ _ _
-effect-verdict m (T.Report i) whole none k e = refl
-effect-verdict m (T.Setup s) whole none k e = refl
-
 module _ (m : Machine) where
+  abbrev c : Core
+  c = coreOf m
+
   abbrev slots : ℕ
   slots = length (m .ledger .threads)
 
-  record-verdict : (d : Decoded) → malformed (coreOf m) slots ≡ false → (k : ℕ) → k ≡ slotOf (coreOf m) slots d → verdictOf (decodedStep (coreOf m) (recordOf (m .ledger) k) slots d .outcome) ≡ inOrder (recordRows m d) Y.Refused Y.Passed
-  unfolding decodedStep taskStep recordRows slotOf decodedThread verdictOf
-  record-verdict (D.Accepted r) whole k e =
-      carried (λ (s : CoreStep). verdictOf (s .outcome)) (turned (coreOf m) (recordOf (m .ledger) k)) _ (table (coreOf m) (askedBy (m .ledger .books) slots (taskOf r))) ∙
-      (same-answer Y.Refused (table (coreOf m) (askedBy (m .ledger .books) slots (taskOf r))) _ _ (λ none. effect-verdict m (taskOf r) whole none k e) ∙
-      sym (in-turn Y.Refused (table (coreOf m) (askedBy (m .ledger .books) slots (taskOf r))) (lastRows m (taskOf r)) Y.Passed))
-  record-verdict (D.Refused why) whole k e = refl
+  abbrev rowsOf : Task → List (Row Reason)
+  rowsOf task = table c (askedBy (m .ledger .books) slots task)
+
+  abbrev verdictFrom : Begun → Verdict
+  verdictFrom s = verdictOf (stepFrom (m .ledger .threads) s .outcome)
+
+  announced-verdict : (x : Announced) → verdictFrom (announcedBegun c x) ≡ inOrder (announceRows x) Y.Refused Y.Passed
+  unfolding verdictOf announcedBegun finishNext announceRows
+  announced-verdict (A.Accepted a) = refl
+  announced-verdict (A.Refused why) = refl
+
+  effect-verdict : (task : Task) → malformed c slots ≡ false → NoneHolds (rowsOf task) → verdictFrom (effectOf c task) ≡ inOrder (lastRows m task) Y.Refused Y.Passed
+  unfolding effectOf finishNext nextThread placeOf lastRows verdictOf askedBy
+  effect-verdict (T.Run p) whole none = refl
+  effect-verdict (T.Sample g W.Tell) whole none = refl
+  effect-verdict (T.Sample g (W.Operate op)) whole none =
+      rw (
+        slot-is (m .ledger .books) op slots (recorded-of c slots (ready-of (m .ready) (none .1 .0)) whole) (none .1 .1 .1 .0),
+        entry-free (m .ledger .books) (recordOf (m .ledger) (concerned (m .ledger .books) op)) (sampleValue (m .timer) g .reading) op (none .1 .1 .1 .1 .0),
+      )
+      (entered-verdict _ _ _ _ (entry-by (m .ledger .books) (recordOf (m .ledger) (concerned (m .ledger .books) op)) _ op))
+  effect-verdict T.Announce whole none = announced-verdict _
+  effect-verdict (T.Report i) whole none = refl
+  effect-verdict (T.Setup s) whole none = refl
+
+  record-verdict : (d : Decoded) → malformed c slots ≡ false → verdictFrom (decodedBegun c slots d) ≡ inOrder (recordRows m d) Y.Refused Y.Passed
+  unfolding decodedBegun taskBegun finishNext recordRows verdictOf
+  record-verdict (D.Accepted r) whole =
+      carried verdictFrom (turned c) _ (rowsOf (taskOf r)) ∙
+      (same-answer Y.Refused (rowsOf (taskOf r)) _ _ (λ none. effect-verdict (taskOf r) whole none) ∙
+      sym (in-turn Y.Refused (rowsOf (taskOf r)) (lastRows m (taskOf r)) Y.Passed))
+  record-verdict (D.Refused why) whole = refl
 
   step-verdict : (d : Decoded) → verdictOf (stepOf m d .outcome) ≡ inOrder (everyRow m d) Y.Refused Y.Passed
-  unfolding stepOf coreStepOf verdictOf
+  unfolding stepOf beginOf finishNext verdictOf
   step-verdict d =
-      carried (λ (s : CoreStep). verdictOf (s .outcome)) (turned (coreOf m) (recordOf (m .ledger) (slotOf (coreOf m) slots d))) _ ((malformed (coreOf m) slots, Why.Malformed) ∷ []) ∙
-      same-answer Y.Refused ((malformed (coreOf m) slots, Why.Malformed) ∷ []) _ _ (λ none. record-verdict d (none .0) _ refl)
+      carried verdictFrom (turned c) _ ((malformed c slots, Why.Malformed) ∷ []) ∙
+      same-answer Y.Refused ((malformed c slots, Why.Malformed) ∷ []) _ _ (λ none. record-verdict d (none .0))
 
 -- an outcome is known by its verdict
 refused-is : (o : Outcome) (why : Reason) → verdictOf o ≡ Y.Refused why → o ≡ O.Refused why

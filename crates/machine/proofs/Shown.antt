@@ -9,13 +9,13 @@ use Rattle.clock.specs.Announce.{announceOf, announcedBy}
 use Rattle.ledger.specs.Stamp.{stampOf}
 use Rattle.ledger.specs.Entries.{runs, charged, withChange, onward, closeOf, stopOf, switchOf, altered, reopenOf, alterOf, enterOf}
 use Rattle.ledger.specs.Operate.{unrecorded, past, busy, entryOf, concerned}
-use Rattle.machine.specs.Task.{taskOf, askedBy, threadOf}
+use Rattle.machine.specs.Task.{taskOf, askedBy}
 use Rattle.machine.specs.Table.{malformed, crowded}
-use Rattle.machine.specs.Step.{enteredStep, announcedStep, effectOf, taskStep, decodedStep, coreStepOf, decodedThread, slotOf, stepOf}
+use Rattle.machine.specs.Step.{announcedBegun, effectOf, taskBegun, decodedBegun, beginOf, nextThread, placeOf, enteredStep, finishNext, stepOf}
 use Rattle.machine.specs.Shown.{Shown}
 
 pub shown : Shown
-unfolding enabled accumulated averageCycles announceDecide cycle runN goodPeriod inRange wellFormed announceOf announcedBy stampOf runs charged withChange onward closeOf stopOf switchOf altered reopenOf alterOf enterOf unrecorded past busy entryOf concerned taskOf askedBy malformed crowded enteredStep announcedStep effectOf taskStep decodedStep coreStepOf threadOf decodedThread slotOf stepOf
+unfolding enabled accumulated averageCycles announceDecide cycle runN goodPeriod inRange wellFormed announceOf announcedBy stampOf runs charged withChange onward closeOf stopOf switchOf altered reopenOf alterOf enterOf unrecorded past busy entryOf concerned taskOf askedBy malformed crowded announcedBegun effectOf taskBegun decodedBegun beginOf nextThread placeOf enteredStep finishNext stepOf
 shown = record {
   cycles-fit = refl;
   cycles-full = refl;

@@ -32,10 +32,10 @@ use Rattle.machine.specs.declared.Reason.{Reason}
 use Rattle.machine.specs.declared.Reason.the-variants as Why
 use Rattle.machine.specs.declared.Outcome.the-variants as O
 use Rattle.machine.specs.declared.tasks.Task.{Task}
-use Rattle.machine.specs.Task.{taskOf, askedBy, threadOf}
+use Rattle.machine.specs.Task.{taskOf, askedBy}
 use Rattle.machine.specs.Table.{malformed, table}
 use Rattle.machine.specs.Accepts.{Runs, Samples, Accepts}
-use Rattle.machine.specs.Step.{enteredStep, announcedStep, effectOf, decodedThread, slotOf, coreOf, steppedFrom, stepOf}
+use Rattle.machine.specs.Step.{announcedBegun, effectOf, nextThread, placeOf, enteredStep, finishNext, coreOf, steppedFrom, stepFrom, stepOf}
 use Rattle.machine.specs.Laws.{Operates, lastRows, recordRows, operationTells}
 use Rattle.machine.specs.Answers.{timed}
 use Rattle.machine.proofs.Accepting as accepting
@@ -55,15 +55,15 @@ module _ (m : Machine) where
   abbrev slots : ℕ
   slots = length (m .ledger .threads)
 
-  pub had : (r : Record) → Touches m r → stepOf m (D.Accepted r) ≡ steppedFrom (m .ledger .threads) (slotOf (coreOf m) slots (D.Accepted r)) (effectOf (coreOf m) (recordOf (m .ledger) (slotOf (coreOf m) slots (D.Accepted r))) (taskOf r))
-  had r t = keeping.effect-had m r (t .whole) (t .none) _ refl
+  pub had : (r : Record) → Touches m r → stepOf m (D.Accepted r) ≡ stepFrom (m .ledger .threads) (effectOf (coreOf m) (taskOf r))
+  had r t = keeping.effect-had m r (t .whole) (t .none)
 
   -- the record of a slot stored back as it was
   same-ledger : (k : ℕ) → record { books = m .ledger .books; threads = set (m .ledger .threads) k (recordOf (m .ledger) k) } ≡ m .ledger
   same-ledger k = rw (set-getD (m .ledger .threads) k newIdle) refl
 
   pub ran : (p : ℕ) → Touches m (K.Run p) → stepOf m (D.Accepted (K.Run p)) .machine ≡ timed m (record { counter = runN p (m .timer .counter); clock = m .timer .clock })
-  unfolding effectOf taskOf
+  unfolding effectOf taskOf finishNext
   ran p t = ap (λ s. s .machine) (had (K.Run p) t) ∙ ap (λ (l : Ledger). record { ready = m .ready; timer = record { counter = runN p (m .timer .counter); clock = m .timer .clock }; ledger = l }) (same-ledger _)
 
   pub runs-accepted : (p : ℕ) → Touches m (K.Run p) → Runs (coreOf m) p
@@ -71,7 +71,7 @@ module _ (m : Machine) where
   runs-accepted p t = accepting.accepted (coreOf m) slots (t .whole) (taskOf (K.Run p)) (t .none)
 
   pub sampled : (g : Gaps) → Touches m (K.Sample g) → stepOf m (D.Accepted (K.Sample g)) .machine ≡ timed m (sampleValue (m .timer) g .timer)
-  unfolding effectOf taskOf
+  unfolding effectOf taskOf finishNext
   sampled g t = ap (λ s. s .machine) (had (K.Sample g) t) ∙ ap (λ (l : Ledger). record { ready = m .ready; timer = sampleValue (m .timer) g .timer; ledger = l }) (same-ledger _)
 
   pub sample-accepted : (g : Gaps) → Touches m (K.Sample g) → Samples (coreOf m) g
@@ -83,11 +83,11 @@ module _ (m : Machine) where
   operation-accepted r g o t = subst (Accepts (coreOf m)) (o .1) (accepting.accepted (coreOf m) slots (t .whole) (taskOf r) (t .none))
 
   pub reported : (i : ℕ) → Touches m (K.Report i) → stepOf m (D.Accepted (K.Report i)) .machine ≡ m
-  unfolding effectOf taskOf
+  unfolding effectOf taskOf finishNext
   reported i t = ap (λ s. s .machine) (had (K.Report i) t) ∙ ap (λ (l : Ledger). record { ready = m .ready; timer = m .timer; ledger = l }) (same-ledger _)
 
   pub announced : (a : Announcement) → announceOf (m .timer) ≡ A.Accepted a → Touches m K.Announce → stepOf m (D.Accepted K.Announce) .machine ≡ timed m (a .timer)
-  unfolding effectOf taskOf announcedStep
+  unfolding effectOf taskOf finishNext announcedBegun
   announced a e t = ap (λ s. s .machine) (had K.Announce t) ∙ rw e (ap (λ (l : Ledger). record { ready = m .ready; timer = a .timer; ledger = l }) (same-ledger _))
 
   pub no-setup : (s : Setup) → m .ready ≡ true → Touches m (K.Setup s) → ⊥
@@ -101,7 +101,7 @@ module _ (m : Machine) where
   stored k there (E.Refused why) b = rw b (same-ledger k)
 
   pub operated : (r : Record) (g : Gaps) (o : Operates r g) → m .ready ≡ true → Touches m r → stepOf m (D.Accepted r) .machine .ledger ≡ operateOf (m .ledger) (sampleValue (m .timer) g .reading) (o .0) .ledger
-  unfolding effectOf operateOf slotOf decodedThread threadOf askedBy
+  unfolding effectOf operateOf nextThread placeOf finishNext askedBy
   operated r g o ready t =
       let op = o .0 in
       let none = subst (λ (task : Task). NoneHolds (table (coreOf m) (askedBy (m .ledger .books) slots task))) (o .1) (t .none) in
@@ -117,7 +117,7 @@ module _ (m : Machine) where
   told k there (E.Refused why) = refl
 
   pub answered : (r : Record) (g : Gaps) (o : Operates r g) → m .ready ≡ true → Touches m r → stepOf m (D.Accepted r) .outcome ≡ operationTells (operateOf (m .ledger) (sampleValue (m .timer) g .reading) (o .0) .answer)
-  unfolding effectOf operateOf slotOf decodedThread threadOf askedBy
+  unfolding effectOf operateOf nextThread placeOf finishNext askedBy
   answered r g o ready t =
       let op = o .0 in
       let none = subst (λ (task : Task). NoneHolds (table (coreOf m) (askedBy (m .ledger .books) slots task))) (o .1) (t .none) in
@@ -138,7 +138,7 @@ module _ (m : Machine) where
 
   -- setup writes every field
   pub set-up : (s : Setup) → Touches m (K.Setup s) → stepOf m (D.Accepted (K.Setup s)) .machine ≡ record { ready = true; timer = setup (s .period) (s .tick); ledger = freshOf slots }
-  unfolding effectOf taskOf
+  unfolding effectOf taskOf finishNext
   set-up s t = ap (λ x. x .machine) (had (K.Setup s) t)
 
 -- and a good one is taken by a machine that is not set up

@@ -1,8 +1,8 @@
--- A record's step: the malformed state, 01's table, and then the record's effect over clock and ledger.
+-- A record's step: the malformed state, 01's table, the record's effect on counter and clock, and then the one thread record concerned.
 use Prim.Native.Nat.{ℕ}
 use mathlib.Core.Bool.{true, false, cond}
 use mathlib.Core.List.{List, [], _∷_}
-use lib.ListN.{length, set, replicate}
+use lib.ListN.{length, getD, set, replicate}
 use lib.Dec.{ltb}
 use Rattle.error.specs.InOrder.{inOrder}
 use Rattle.usage.specs.declared.ThreadUsage.{ThreadUsage}
@@ -20,31 +20,38 @@ use Rattle.ledger.specs.declared.Books.{Books}
 use Rattle.ledger.specs.declared.Operation.{Operation}
 use Rattle.ledger.specs.declared.Entered.{Entered}
 use Rattle.ledger.specs.declared.Entered.the-variants as E
-use Rattle.ledger.specs.Operate.{entryOf, nothingBooked, freshOf, recordOf}
+use Rattle.ledger.specs.Operate.{concerned, entryOf, nothingBooked, freshOf}
 use Rattle.trace.specs.declared.Setup.{Setup}
 use Rattle.trace.specs.declared.Decoded.{Decoded}
 use Rattle.trace.specs.declared.Decoded.the-variants as D
 use Rattle.machine.specs.declared.Core.{Core}
+use Rattle.machine.specs.declared.Begun.{Begun}
+use Rattle.machine.specs.declared.Next.{Next}
+use Rattle.machine.specs.declared.Next.the-variants as N
 use Rattle.machine.specs.declared.CoreStep.{CoreStep}
 use Rattle.machine.specs.declared.Machine.{Machine}
 use Rattle.machine.specs.declared.Stepped.{Stepped}
 use Rattle.machine.specs.declared.Reason.{Reason}
 use Rattle.machine.specs.declared.Reason.the-variants as Why
+use Rattle.machine.specs.declared.Outcome.{Outcome}
 use Rattle.machine.specs.declared.Outcome.the-variants as O
 use Rattle.machine.specs.declared.tasks.Task.{Task}
 use Rattle.machine.specs.declared.tasks.Task.the-variants as T
 use Rattle.machine.specs.declared.tasks.Then.{Then}
 use Rattle.machine.specs.declared.tasks.Then.the-variants as W
-use Rattle.machine.specs.Task.{taskOf, askedBy, threadOf}
+use Rattle.machine.specs.Task.{taskOf, askedBy}
 use Rattle.machine.specs.Table.{malformed, table}
 
 -- accepted, with x and y
-abbrev pub done : Core → ThreadUsage → ℕ → ℕ → CoreStep
-done c u x y = record { outcome = O.Accepted (record { x = x; y = y }); core = c; usage = u; fresh = false }
+abbrev pub accepted : ℕ → ℕ → Outcome
+accepted x y = O.Accepted (record { x = x; y = y })
+
+abbrev pub told : Core → ℕ → ℕ → Begun
+told c x y = record { next = N.Done (accepted x y); core = c }
 
 -- turned away: 0 0
-abbrev pub turned : Core → ThreadUsage → Reason → CoreStep
-turned c u why = record { outcome = O.Refused why; core = c; usage = u; fresh = false }
+abbrev pub turned : Core → Reason → Begun
+turned c why = record { next = N.Done (O.Refused why); core = c }
 
 abbrev pub withTimer : Core → Timer → Core
 withTimer c t = record { ready = c .ready; timer = t; books = c .books }
@@ -53,72 +60,82 @@ abbrev pub withBooks : Core → Books → Core
 withBooks c b = record { ready = c .ready; timer = c .timer; books = b }
 
 -- Otherwise 0 0.
-abbrev pub runStep : Core → ThreadUsage → ℕ → CoreStep
-runStep c u p = done (withTimer c (record { counter = runN p (c .timer .counter); clock = c .timer .clock })) u 0 0
+abbrev pub runBegun : Core → ℕ → Begun
+runBegun c p = told (withTimer c (record { counter = runN p (c .timer .counter); clock = c .timer .clock })) 0 0
 
--- Sample: elapsed, wrap.
-abbrev pub sampledStep : Core → ThreadUsage → SampleTaken → CoreStep
-sampledStep c u taken = done (withTimer c (taken .timer)) u (taken .elapsed) (cond (taken .wrap) 1 0)
+-- Sample: elapsed, wrap. Kinds 3 to 7 go on at its reading.
+abbrev pub thenBegun : Core → Then → SampleTaken → Begun
+thenBegun c W.Tell taken = told (withTimer c (taken .timer)) (taken .elapsed) (cond (taken .wrap) 1 0)
+thenBegun c (W.Operate op) taken = record { next = N.Enter op (taken .reading); core = withTimer c (taken .timer) }
+
+-- Announce: dticks, announced. What the leaf refuses changes nothing.
+unfoldable pub announcedBegun : Core → Announced → Begun
+announcedBegun c (A.Accepted a) = told (withTimer c (a .timer)) (a .dticks .0) (a .timer .clock .announced .0)
+announcedBegun c (A.Refused why) = turned c (Why.NotAnnounced why)
+
+abbrev pub reportBegun : Core → ℕ → Begun
+reportBegun c i = record { next = N.Report i; core = c }
+
+-- Setup writes every field.
+abbrev pub setupBegun : Setup → Begun
+setupBegun s = record { next = N.Fresh; core = record { ready = true; timer = setup (s .period) (s .tick); books = nothingBooked } }
+
+unfoldable pub effectOf : Core → Task → Begun
+effectOf c (T.Run p) = runBegun c p
+effectOf c (T.Sample g then) = thenBegun c then (sampleValue (c .timer) g)
+effectOf c T.Announce = announcedBegun c (announceOf (c .timer))
+effectOf c (T.Report i) = reportBegun c i
+effectOf c (T.Setup s) = setupBegun s
+
+-- 01's table, and then the effect
+unfoldable pub taskBegun : Core → ℕ → Task → Begun
+taskBegun c slots task = inOrder (table c (askedBy (c .books) slots task)) (turned c) (effectOf c task)
+
+-- bytes that are no record meet the table's first row
+unfoldable pub decodedBegun : Core → ℕ → Decoded → Begun
+decodedBegun c slots (D.Accepted r) = taskBegun c slots (taskOf r)
+decodedBegun c slots (D.Refused why) = turned c Why.BadRecord
+
+-- The malformed state is tested first.
+unfoldable pub beginOf : Core → ℕ → Decoded → Begun
+beginOf c slots d = inOrder ((malformed c slots, Why.Malformed) ∷ []) (turned c) (decodedBegun c slots d)
+
+-- the thread whose record is concerned; the first where none is
+unfoldable pub nextThread : Books → Next → ℕ
+nextThread b (N.Done o) = 0
+nextThread b (N.Enter op reading) = concerned b op
+nextThread b (N.Report i) = i
+nextThread b N.Fresh = 0
+
+-- and its slot in a table of so many
+unfoldable pub placeOf : Begun → ℕ → ℕ
+placeOf s slots = cond (ltb (nextThread (s .core .books) (s .next)) slots) (nextThread (s .core .books) (s .next)) 0
+
+-- the record as it is left
+abbrev pub left : Core → ThreadUsage → Outcome → CoreStep
+left c u o = record { outcome = o; core = c; usage = u; fresh = false }
 
 -- Kinds 3 to 7: cycles closed, 0. A sum or window count that won't fit leaves the ledger; the sample is kept.
 unfoldable pub enteredStep : Core → ThreadUsage → Entered → CoreStep
-enteredStep c u (E.Accepted e) = done (withBooks c (e .books)) (e .usage) (e .cycles) 0
-enteredStep c u (E.Refused why) = turned c u Why.WontFit
-
-abbrev pub operatedStep : Core → ThreadUsage → Operation → SampleTaken → CoreStep
-operatedStep c u op taken = enteredStep (withTimer c (taken .timer)) u (entryOf (c .books) u (taken .reading) op)
-
--- what follows a sample
-abbrev pub thenStep : Core → ThreadUsage → Then → SampleTaken → CoreStep
-thenStep c u W.Tell taken = sampledStep c u taken
-thenStep c u (W.Operate op) taken = operatedStep c u op taken
-
--- Announce: dticks, announced. What the leaf refuses changes nothing.
-unfoldable pub announcedStep : Core → ThreadUsage → Announced → CoreStep
-announcedStep c u (A.Accepted a) = done (withTimer c (a .timer)) u (a .dticks .0) (a .timer .clock .announced .0)
-announcedStep c u (A.Refused why) = turned c u (Why.NotAnnounced why)
+enteredStep c u (E.Accepted e) = left (withBooks c (e .books)) (e .usage) (accepted (e .cycles) 0)
+enteredStep c u (E.Refused why) = left c u (O.Refused Why.WontFit)
 
 -- Report: total, average.
 abbrev pub reportStep : Core → ThreadUsage → CoreStep
-reportStep c u = done c u (u .«total_cycles» .0) (averageCycles (u .«total_cycles») (u .«num_windows») .0)
+reportStep c u = left c u (accepted (u .«total_cycles» .0) (averageCycles (u .«total_cycles») (u .«num_windows») .0))
 
--- Setup writes every field.
-abbrev pub setupStep : Setup → CoreStep
-setupStep s = record {
-  outcome = O.Accepted (record { x = 0; y = 0 });
-  core = record { ready = true; timer = setup (s .period) (s .tick); books = nothingBooked };
-  usage = newIdle;
-  fresh = true;
-}
+-- every record is to be a fresh one
+abbrev pub freshStep : Core → CoreStep
+freshStep c = record { outcome = accepted 0 0; core = c; usage = newIdle; fresh = true }
 
-unfoldable pub effectOf : Core → ThreadUsage → Task → CoreStep
-effectOf c u (T.Run p) = runStep c u p
-effectOf c u (T.Sample g then) = thenStep c u then (sampleValue (c .timer) g)
-effectOf c u T.Announce = announcedStep c u (announceOf (c .timer))
-effectOf c u (T.Report i) = reportStep c u
-effectOf c u (T.Setup s) = setupStep s
+unfoldable pub finishNext : Core → ThreadUsage → Next → CoreStep
+finishNext c u (N.Done o) = left c u o
+finishNext c u (N.Enter op reading) = enteredStep c u (entryOf (c .books) u reading op)
+finishNext c u (N.Report i) = reportStep c u
+finishNext c u N.Fresh = freshStep c
 
--- 01's table, and then the effect
-unfoldable pub taskStep : Core → ThreadUsage → ℕ → Task → CoreStep
-taskStep c u slots task = inOrder (table c (askedBy (c .books) slots task)) (turned c u) (effectOf c u task)
-
--- bytes that are no record meet the table's first row
-unfoldable pub decodedStep : Core → ThreadUsage → ℕ → Decoded → CoreStep
-decodedStep c u slots (D.Accepted r) = taskStep c u slots (taskOf r)
-decodedStep c u slots (D.Refused why) = turned c u Why.BadRecord
-
--- The malformed state is tested first.
-unfoldable pub coreStepOf : Core → ThreadUsage → ℕ → Decoded → CoreStep
-coreStepOf c u slots d = inOrder ((malformed c slots, Why.Malformed) ∷ []) (turned c u) (decodedStep c u slots d)
-
--- the thread whose record is concerned
-unfoldable pub decodedThread : Books → Decoded → ℕ
-decodedThread b (D.Accepted r) = threadOf b (taskOf r)
-decodedThread b (D.Refused why) = 0
-
--- and its slot in a table of so many
-unfoldable pub slotOf : Core → ℕ → Decoded → ℕ
-slotOf c slots d = cond (ltb (decodedThread (c .books) d) slots) (decodedThread (c .books) d) 0
+abbrev pub finishOf : Begun → ThreadUsage → CoreStep
+finishOf s u = finishNext (s .core) u (s .next)
 
 abbrev pub coreOf : Machine → Core
 coreOf m = record { ready = m .ready; timer = m .timer; books = m .ledger .books }
@@ -133,12 +150,13 @@ machineOf c threads = record { ready = c .ready; timer = c .timer; ledger = reco
 abbrev pub steppedFrom : List ThreadUsage → ℕ → CoreStep → Stepped
 steppedFrom threads k s = record { outcome = s .outcome; machine = machineOf (s .core) (threadsAfter threads k s) }
 
--- the core's step, over the machine's own record at a slot
-abbrev pub stepAt : Machine → ℕ → Decoded → Stepped
-stepAt m k d = steppedFrom (m .ledger .threads) k (coreStepOf (coreOf m) (recordOf (m .ledger) k) (length (m .ledger .threads)) d)
+-- both parts of a step, over a table's own record
+abbrev pub stepFrom : List ThreadUsage → Begun → Stepped
+stepFrom threads s =
+    steppedFrom threads (placeOf s (length threads)) (finishOf s (getD threads (placeOf s (length threads)) newIdle))
 
 unfoldable pub stepOf : Machine → Decoded → Stepped
-stepOf m d = stepAt m (slotOf (coreOf m) (length (m .ledger .threads)) d) d
+stepOf m d = stepFrom (m .ledger .threads) (beginOf (coreOf m) (length (m .ledger .threads)) d)
 
 -- a machine that is not set up
 abbrev pub freshMachine : ℕ → Machine

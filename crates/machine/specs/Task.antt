@@ -7,7 +7,7 @@ use Rattle.clock.specs.declared.Gaps.{Gaps}
 use Rattle.ledger.specs.declared.Books.{Books}
 use Rattle.ledger.specs.declared.Operation.{Operation}
 use Rattle.ledger.specs.declared.Operation.the-variants as O
-use Rattle.ledger.specs.Operate.{past, busy, concerned}
+use Rattle.ledger.specs.Operate.{past, busy}
 use Rattle.trace.specs.declared.Record.{Record}
 use Rattle.trace.specs.declared.Record.the-variants as K
 use Rattle.trace.specs.declared.Setup.{Setup}
@@ -61,16 +61,3 @@ askedBy b slots (T.Sample g (W.Operate op)) = asksOperation b slots op g
 askedBy b slots T.Announce = asksNothing
 askedBy b slots (T.Report i) = asksReport slots i
 askedBy b slots (T.Setup s) = asksSetup s
-
--- the thread whose record an operation at a sample concerns; the first where there is none
-abbrev pub thenThread : Books → Then → ℕ
-thenThread b W.Tell = 0
-thenThread b (W.Operate op) = concerned b op
-
--- the thread whose record a task concerns; the first where it concerns none, whose record then stays
-unfoldable pub threadOf : Books → Task → ℕ
-threadOf b (T.Run p) = 0
-threadOf b (T.Sample g then) = thenThread b then
-threadOf b T.Announce = 0
-threadOf b (T.Report i) = i
-threadOf b (T.Setup s) = 0

@@ -1,12 +1,13 @@
-// The effect of a task that passed the table: over counter and clock, and over the books and the one record concerned.
+// The first part of a step: what a task that passed the table does to counter and clock, and what is left to do.
 ghost use mathlib.Core.Path.{_≡_};
 ghost use mathlib.Core.Bool.{cond};
 ghost use Rattle.clock.specs.Sample.{sampleValue};
 ghost use Rattle.clock.specs.Announce.{announceOf};
-ghost use Rattle.machine.specs.Step.{done, turned, withTimer, withBooks, runStep, enteredStep, thenStep, announcedStep, reportStep, setupStep, effectOf};
+ghost use Rattle.machine.specs.Step.{told, turned, withTimer, runBegun, thenBegun, announcedBegun, reportBegun, setupBegun, effectOf};
 ghost use Rattle.machine.specs.Accepts.{Runs, Samples, SetsUp, Accepts};
+use crate::Begun;
 use crate::Core;
-use crate::CoreStep;
+use crate::Next;
 use crate::Outcome;
 use crate::Reason;
 use crate::Values;
@@ -19,10 +20,7 @@ use clock::Sampled;
 use clock::SetUp;
 use clock::Timer;
 use counter::Ran;
-use ledger::Books;
-use ledger::Entered;
 use trace::Setup;
-use usage::ThreadUsage;
 
 fn with_timer(core: Core, timer: Timer) -> Core
     ensures { λ r. ⌜ r ≡ withTimer core timer ⌝ }
@@ -35,57 +33,42 @@ fn with_timer(core: Core, timer: Timer) -> Core
     }
 }
 
-fn with_books(core: Core, books: Books) -> Core
-    ensures { λ r. ⌜ r ≡ withBooks core books ⌝ }
+fn told(core: Core, x: u64, y: u64) -> Begun
+    ensures { λ r. ⌜ r ≡ told core x y ⌝ }
 {
-    let timer = core.timer;
-    Core {
-        ready: core.ready,
-        timer: timer,
-        books: books,
+    Begun {
+        next: Next::Done(Outcome::Accepted(Values { x: x, y: y })),
+        core: core,
     }
 }
 
-fn done(core: Core, usage: ThreadUsage, x: u64, y: u64) -> CoreStep
-    ensures { λ r. ⌜ r ≡ done core usage x y ⌝ }
+pub(crate) fn turned_away(core: Core, why: Reason) -> Begun
+    ensures { λ r. ⌜ r ≡ turned core why ⌝ }
 {
-    CoreStep {
-        outcome: Outcome::Accepted(Values { x: x, y: y }),
+    Begun {
+        next: Next::Done(Outcome::Refused(why)),
         core: core,
-        usage: usage,
-        fresh: false,
-    }
-}
-
-pub(crate) fn turned_away(core: Core, usage: ThreadUsage, why: Reason) -> CoreStep
-    ensures { λ r. ⌜ r ≡ turned core usage why ⌝ }
-{
-    CoreStep {
-        outcome: Outcome::Refused(why),
-        core: core,
-        usage: usage,
-        fresh: false,
     }
 }
 
 // The tests before leave no refusal to a run, a sample or a setup. Where one is taken apart a reason stands in for the
 // way that is never gone.
-fn run_effect(core: Core, usage: ThreadUsage, p: u32) -> CoreStep
+fn run_effect(core: Core, p: u32) -> Begun
     requires { ⌜ Runs core p ⌝ }
-    ensures { λ r. ⌜ r ≡ runStep core usage p ⌝ }
+    ensures { λ r. ⌜ r ≡ runBegun core p ⌝ }
 {
     let timer = core.timer;
     let before = timer.counter;
     let ran = counter::run(before, p);
     let Ran::Accepted(after) = ran else {
-        return turned_away(core, usage, Reason::CyclesAbove);
+        return turned_away(core, Reason::CyclesAbove);
     };
     let clock = timer.clock;
     let next = Timer {
         counter: after,
         clock: clock,
     };
-    done(with_timer(core, next), usage, 0, 0)
+    told(with_timer(core, next), 0, 0)
 }
 
 fn wrap_number(wrap: bool) -> u64
@@ -94,102 +77,88 @@ fn wrap_number(wrap: bool) -> u64
     if wrap { 1 } else { 0 }
 }
 
-// The sample stands either way; of the ledger nothing changes where its step is refused.
-fn entry_effect(core: Core, usage: ThreadUsage, entered: Entered) -> CoreStep
-    ensures { λ r. ⌜ r ≡ enteredStep core usage entered ⌝ }
-{
-    let Entered::Accepted(entry) = entered else {
-        return turned_away(core, usage, Reason::WontFit);
-    };
-    let books = entry.books;
-    let next = entry.usage;
-    done(with_books(core, books), next, entry.cycles as u64, 0)
-}
-
-fn then_effect(core: Core, usage: ThreadUsage, then: Then, taken: SampleTaken) -> CoreStep
-    ensures { λ r. ⌜ r ≡ thenStep core usage then taken ⌝ }
+// The sample stands, whatever becomes of the operation that is to follow it.
+fn then_effect(core: Core, then: Then, taken: SampleTaken) -> Begun
+    ensures { λ r. ⌜ r ≡ thenBegun core then taken ⌝ }
 {
     let after = taken.timer;
     let reading = taken.reading;
-    let books = core.books;
     match then {
-        Then::Tell => done(
+        Then::Tell => told(
             with_timer(core, after),
-            usage,
             taken.elapsed as u64,
             wrap_number(taken.wrap),
         ),
-        Then::Operate(operation) => {
-            let entered = ledger::enter(books, usage, reading, operation);
-            entry_effect(with_timer(core, after), usage, entered)
-        }
+        Then::Operate(operation) => Begun {
+            next: Next::Enter(operation, reading),
+            core: with_timer(core, after),
+        },
     }
 }
 
-fn sample_effect(core: Core, usage: ThreadUsage, gaps: Gaps, then: Then) -> CoreStep
+fn sample_effect(core: Core, gaps: Gaps, then: Then) -> Begun
     requires { ⌜ Samples core gaps ⌝ }
-    ensures { λ r. ⌜ r ≡ thenStep core usage then (sampleValue (core .timer) gaps) ⌝ }
+    ensures { λ r. ⌜ r ≡ thenBegun core then (sampleValue (core .timer) gaps) ⌝ }
 {
     let timer = core.timer;
     let sampled = clock::sample(timer, gaps);
     let Sampled::Accepted(taken) = sampled else {
-        return turned_away(core, usage, Reason::AnnounceFirst);
+        return turned_away(core, Reason::AnnounceFirst);
     };
-    then_effect(core, usage, then, taken)
+    then_effect(core, then, taken)
 }
 
-fn announce_effect(core: Core, usage: ThreadUsage) -> CoreStep
-    ensures { λ r. ⌜ r ≡ announcedStep core usage (announceOf (core .timer)) ⌝ }
+fn announce_effect(core: Core) -> Begun
+    ensures { λ r. ⌜ r ≡ announcedBegun core (announceOf (core .timer)) ⌝ }
 {
     let timer = core.timer;
     let announced = clock::announce(timer);
     let Announced::Accepted(announcement) = announced else {
-        return turned_away(core, usage, Reason::NotAnnounced(announced.refusal()));
+        return turned_away(core, Reason::NotAnnounced(announced.refusal()));
     };
     let after = announcement.timer;
     let dticks = announcement.dticks;
     let clock = after.clock;
-    done(with_timer(core, after), usage, dticks.0, clock.announced.0)
+    told(with_timer(core, after), dticks.0, clock.announced.0)
 }
 
-fn report_effect(core: Core, usage: ThreadUsage) -> CoreStep
-    ensures { λ r. ⌜ r ≡ reportStep core usage ⌝ }
+fn report_effect(core: Core, thread: u32) -> Begun
+    ensures { λ r. ⌜ r ≡ reportBegun core thread ⌝ }
 {
-    let total = usage.total_cycles;
-    let average = usage::average_cycles(total, usage.num_windows);
-    done(core, usage, total.0, average.0)
+    Begun {
+        next: Next::Report(thread),
+        core: core,
+    }
 }
 
-fn setup_effect(core: Core, usage: ThreadUsage, setup: Setup) -> CoreStep
+fn setup_effect(core: Core, setup: Setup) -> Begun
     requires { ⌜ SetsUp setup ⌝ }
-    ensures { λ r. ⌜ r ≡ setupStep setup ⌝ }
+    ensures { λ r. ⌜ r ≡ setupBegun setup ⌝ }
 {
     let set_up = clock::set_up(setup.period, setup.tick);
     let SetUp::Accepted(timer) = set_up else {
-        return turned_away(core, usage, Reason::BadRecord);
+        return turned_away(core, Reason::BadRecord);
     };
     let books = ledger::nothing_booked();
-    CoreStep {
-        outcome: Outcome::Accepted(Values { x: 0, y: 0 }),
+    Begun {
+        next: Next::Fresh,
         core: Core {
             ready: true,
             timer: timer,
             books: books,
         },
-        usage: ThreadUsage::new_idle(),
-        fresh: true,
     }
 }
 
-pub(crate) fn effect(core: Core, usage: ThreadUsage, task: Task) -> CoreStep
+pub(crate) fn effect(core: Core, task: Task) -> Begun
     requires { ⌜ Accepts core task ⌝ }
-    ensures { λ r. ⌜ r ≡ effectOf core usage task ⌝ }
+    ensures { λ r. ⌜ r ≡ effectOf core task ⌝ }
 {
     match task {
-        Task::Run(p) => run_effect(core, usage, p),
-        Task::Sample(gaps, then) => sample_effect(core, usage, gaps, then),
-        Task::Announce => announce_effect(core, usage),
-        Task::Report(_) => report_effect(core, usage),
-        Task::Setup(setup) => setup_effect(core, usage, setup),
+        Task::Run(p) => run_effect(core, p),
+        Task::Sample(gaps, then) => sample_effect(core, gaps, then),
+        Task::Announce => announce_effect(core),
+        Task::Report(thread) => report_effect(core, thread),
+        Task::Setup(setup) => setup_effect(core, setup),
     }
 }

@@ -4,28 +4,34 @@ ghost use mathlib.Core.Bool.{false};
 ghost use Prim.Native.Nat.{_<_};
 ghost use lib.ListN.{length};
 ghost use Rattle.machine.specs.Table.{refusalOf, malformed};
-ghost use Rattle.machine.specs.Step.{taskStep, coreStepOf, decodedThread, slotOf, coreOf, machineOf, steppedFrom, stepOf, freshMachine};
+ghost use Rattle.trace.specs.Decode.{decodeOf};
+ghost use Rattle.machine.specs.Step.{taskBegun, decodedBegun, beginOf, nextThread, placeOf, finishOf, coreOf, machineOf, steppedFrom, stepOf, freshMachine};
 ghost use Rattle.machine.specs.Says.{outcomeSays};
 use clock::Clock;
 use clock::Timer;
 use counter::Counter;
 use effects::effect;
 use effects::turned_away;
+use ending::all_fresh;
+use ending::enter;
+use ending::left;
+use ending::report;
 use error::Refusal;
 use ledger::Books;
 use ledger::Ledger;
+use ledger::Operation;
 use table::Verdict;
 use table::malformed;
 use table::tested;
 use tasks::Task;
 use tasks::asked_by;
 use tasks::task_of;
-use tasks::thread_of;
 use trace::Decoded;
 use units::Cycles;
 use usage::ThreadUsage;
 
 mod effects;
+mod ending;
 mod table;
 mod tasks;
 
@@ -67,6 +73,21 @@ pub struct Values {
 pub enum Outcome {
     Accepted(Values),
     Refused(Reason),
+}
+
+// What is left to do once counter and clock have had their part of a step.
+pub enum Next {
+    Done(Outcome),
+    // An operation, to be entered at a sample's reading.
+    Enter(Operation, Cycles),
+    Report(u32),
+    // Set up just now.
+    Fresh,
+}
+
+pub struct Begun {
+    pub next: Next,
+    pub core: Core,
 }
 
 // The core and the one record concerned, after a step.
@@ -131,51 +152,86 @@ impl Outcome {
     }
 }
 
-fn task_step(core: Core, usage: ThreadUsage, slots: usize, task: Task) -> CoreStep
+fn task_begun(core: Core, slots: usize, task: Task) -> Begun
     requires { ⌜ malformed core slots ≡ false ⌝ }
-    ensures { λ r. ⌜ r ≡ taskStep core usage slots task ⌝ }
+    ensures { λ r. ⌜ r ≡ taskBegun core slots task ⌝ }
 {
     let books = core.books;
     let verdict = tested(core, asked_by(books, slots, task));
     match verdict {
-        Verdict::Passed => effect(core, usage, task),
-        Verdict::Refused(why) => turned_away(core, usage, why),
+        Verdict::Passed => effect(core, task),
+        Verdict::Refused(why) => turned_away(core, why),
     }
 }
 
-// The core of a step: it gets the one record concerned, `slot` says which, and gives it back.
-pub fn core_step(core: Core, usage: ThreadUsage, slots: usize, decoded: Decoded) -> CoreStep
-    ensures { λ r. ⌜ r ≡ coreStepOf core usage slots decoded ⌝ }
+fn decoded_begun(core: Core, slots: usize, decoded: Decoded) -> Begun
+    requires { ⌜ malformed core slots ≡ false ⌝ }
+    ensures { λ r. ⌜ r ≡ decodedBegun core slots decoded ⌝ }
+{
+    let Decoded::Accepted(accepted) = decoded else {
+        return turned_away(core, Reason::BadRecord);
+    };
+    task_begun(core, slots, task_of(accepted))
+}
+
+// The first part of a step, for which no thread record is needed. The second is `finish`, with the record at `place`.
+pub fn begin(core: Core, slots: usize, decoded: Decoded) -> Begun
+    ensures { λ r. ⌜ r ≡ beginOf core slots decoded ⌝ }
 {
     if malformed(core, slots) {
-        return turned_away(core, usage, Reason::Malformed);
+        return turned_away(core, Reason::Malformed);
     }
-    let Decoded::Accepted(accepted) = decoded else {
-        return turned_away(core, usage, Reason::BadRecord);
-    };
-    task_step(core, usage, slots, task_of(accepted))
+    decoded_begun(core, slots, decoded)
 }
 
-fn decoded_thread(books: Books, decoded: Decoded) -> u32
-    ensures { λ r. ⌜ r ≡ decodedThread books decoded ⌝ }
+// The same for the record at a place of a trace. It is decoded after the state was tested: then the compiler goes from
+// a record's kind straight to what that kind does.
+pub fn begin_at(core: Core, slots: usize, trace: &[u8], at: usize) -> Begun
+    ensures { λ r. ⌜ r ≡ beginOf core slots (decodeOf (now (trace .entry)) at) ⌝ }
 {
-    match decoded {
-        Decoded::Accepted(accepted) => thread_of(books, task_of(accepted)),
-        Decoded::Refused(_) => 0,
+    if malformed(core, slots) {
+        return turned_away(core, Reason::Malformed);
+    }
+    decoded_begun(core, slots, trace::decode(trace, at))
+}
+
+fn next_thread(books: Books, next: Next) -> u32
+    ensures { λ r. ⌜ r ≡ nextThread books next ⌝ }
+{
+    match next {
+        Next::Done(_) => 0,
+        Next::Enter(operation, _) => ledger::concerned(books, operation),
+        Next::Report(thread) => thread,
+        Next::Fresh => 0,
     }
 }
 
-// The slot whose record a step concerns; the first where it concerns none, or one past the table.
-pub fn slot(core: Core, slots: usize, decoded: Decoded) -> usize
-    ensures { λ r. ⌜ r ≡ slotOf core slots decoded ⌝ }
+// The slot of the record that a step concerns; the first where it concerns none, or one past the table.
+pub fn place(begun: Begun, slots: usize) -> usize
+    ensures { λ r. ⌜ r ≡ placeOf begun slots ⌝ }
 {
-    let books = core.books;
-    let thread = decoded_thread(books, decoded);
+    let books = begun.core.books;
+    let next = begun.next;
+    let thread = next_thread(books, next);
     let k = thread as usize;
     if k < slots {
         return k;
     }
     0
+}
+
+// The second part of a step: it gets the record at `place`, and gives it back.
+pub fn finish(begun: Begun, usage: ThreadUsage) -> CoreStep
+    ensures { λ r. ⌜ r ≡ finishOf begun usage ⌝ }
+{
+    let core = begun.core;
+    let next = begun.next;
+    match next {
+        Next::Done(outcome) => left(core, usage, outcome),
+        Next::Enter(operation, reading) => enter(core, usage, reading, operation),
+        Next::Report(_) => report(core, usage),
+        Next::Fresh => all_fresh(core),
+    }
 }
 
 impl Machine {
@@ -228,19 +284,15 @@ fn stored(ledger: Ledger, k: usize, after: CoreStep) -> Stepped
     }
 }
 
-// One record's step, the machine by value: the core's step over the record concerned.
+// One record's step, the machine by value: both parts, over the machine's own record.
 pub fn step(machine: Machine, decoded: Decoded) -> Stepped
     ensures { λ r. ⌜ r ≡ stepOf machine decoded ⌝ }
 {
-    let core = machine.core();
     let ledger = machine.ledger;
-    let k = slot(core, ThreadUsage::SLOTS, decoded);
+    let begun = begin(machine.core(), ThreadUsage::SLOTS, decoded);
+    let k = place(begun, ThreadUsage::SLOTS);
     let usage = ledger.threads[k];
-    stored(
-        ledger,
-        k,
-        core_step(core, usage, ThreadUsage::SLOTS, decoded),
-    )
+    stored(ledger, k, finish(begun, usage))
 }
 
 // A machine that is not set up.

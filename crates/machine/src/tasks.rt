@@ -2,7 +2,7 @@
 ghost use mathlib.Core.Path.{_≡_};
 ghost use Prim.Native.Nat.{_+_};
 ghost use Rattle.machine.specs.declared.tasks.Task.the-variants as T;
-ghost use Rattle.machine.specs.Task.{taskOf, asksNothing, asksCycles, asksSample, asksOperation, asksReport, asksSetup, askedBy, thenThread, threadOf};
+ghost use Rattle.machine.specs.Task.{taskOf, asksNothing, asksCycles, asksSample, asksOperation, asksReport, asksSetup, askedBy};
 use clock::Gaps;
 use ledger::Books;
 use ledger::Operation;
@@ -148,26 +148,5 @@ pub(crate) fn asked_by(books: Books, slots: usize, task: Task) -> Asked
         Task::Announce => asks_nothing(),
         Task::Report(thread) => asks_report(slots, thread),
         Task::Setup(setup) => asks_setup(setup),
-    }
-}
-
-fn then_thread(books: Books, then: Then) -> u32
-    ensures { λ r. ⌜ r ≡ thenThread books then ⌝ }
-{
-    match then {
-        Then::Tell => 0,
-        Then::Operate(operation) => ledger::concerned(books, operation),
-    }
-}
-
-pub(crate) fn thread_of(books: Books, task: Task) -> u32
-    ensures { λ r. ⌜ r ≡ threadOf books task ⌝ }
-{
-    match task {
-        Task::Run(_) => 0,
-        Task::Sample(_, then) => then_thread(books, then),
-        Task::Announce => 0,
-        Task::Report(thread) => thread,
-        Task::Setup(_) => 0,
     }
 }

@@ -1,4 +1,4 @@
--- The lines that end a trace's text, and the room that the whole of it is asked for.
+-- A record's line, the lines that end a trace's text, and the room that the whole of it is asked for.
 use Prim.Native.Nat.{ℕ, _+_, _*_, _/_, _%_, _≤_, _<_}
 use mathlib.Core.Path.{_≡_, refl, ap, _∙_}
 use mathlib.Core.Bool.{Bool, true, false, cond}
@@ -6,22 +6,25 @@ use mathlib.Core.List.{List, _++_}
 use native.Mathlib.Omega.{arith}
 use native.Mathlib.Nat.{zero-add}
 use lib.ListN.{length}
+use lib.IntN.{ℤ}
 use lib.Dec.{ltb, leb}
 use borrow.Author.Tests.{eq-eqb, ne-eqb, lt-ltb, le-ltb, ltb-true, ltb-false, leb-true}
 use Rattle.error.specs.declared.Refusal.{Refusal}
 use Rattle.error.specs.declared.Refusal.the-variants.{NoSpace, Overflow}
 use Rattle.error.specs.Numbers.{max64}
 use Rattle.machine.specs.declared.Machine.{Machine}
+use Rattle.machine.specs.declared.Outcome.{Outcome}
+use Rattle.machine.specs.Says.{outcomeSays}
 use Rattle.machine.specs.Step.{freshMachine}
 use Rattle.lines.specs.declared.Written.{Written}
 use Rattle.lines.specs.declared.Written.the-variants as W
 use Rattle.transcript.specs.declared.Part.{Part}
 use Rattle.transcript.specs.declared.Replayed.{Replayed}
 use Rattle.lines.specs.Says.{writtenSays}
-use Rattle.lines.specs.Text.{endText, tailText, inputText, fits, putOf, writtenOf, lineRoom}
+use Rattle.lines.specs.Text.{lineText, endText, tailText, inputText, fits, putOf, writtenOf, lineRoom}
 use Rattle.lines.specs.Writing.{Put}
 use Rattle.transcript.specs.Room.{Replays}
-use Rattle.transcript.specs.Replay.{machineAfter, wholeRecords, linesFrom, partRefused, partOf, partBuffer, lastRoom, mostBytes, lastText, lastOf, textFrom, traceText, roomFor, replayOf, replayedOf}
+use Rattle.transcript.specs.Replay.{machineAfter, outcomeText, wholeRecords, linesFrom, partRefused, partOf, partBuffer, lastRoom, mostBytes, lastText, lastOf, textFrom, traceText, roomFor, replayOf, replayedOf}
 use Rattle.lines.proofs.Stores.{then}
 use Rattle.lines.proofs.Whole.{accepted, put, refused, kept, put-length}
 
@@ -29,6 +32,13 @@ use Rattle.lines.proofs.Whole.{accepted, put, refused, kept, put-length}
 pub stands : (buffer : List ℕ) (at : ℕ) (text : List ℕ) {now : List ℕ} {written : Written} {end : ℕ} → at + length text ≤ length buffer → written ≡ writtenOf buffer at text → now ≡ putOf buffer at text → end ≡ writtenSays written .value → Put buffer now at end text
 unfolding writtenSays
 stands buffer at text h ew en ee = record { next = rw (ee, ew, accepted buffer at text h) refl; bytes = en ∙ put buffer at text h }
+
+-- an outcome's line, from what the outcome says
+pub line-stands : (number : ℕ) (o : Outcome) {buffer now : List ℕ} {at end x y : ℕ} {code : ℤ} {written : Written} → code ≡ outcomeSays o .number → x ≡ outcomeSays o .value .x → y ≡ outcomeSays o .value .y → length (lineText number code x y) ≤ lineRoom → at + lineRoom ≤ length buffer → written ≡ writtenOf buffer at (lineText number code x y) → now ≡ putOf buffer at (lineText number code x y) → end ≡ writtenSays written .value → Put buffer now at end (outcomeText number o) × (end ≤ at + lineRoom)
+unfolding outcomeText
+line-stands number o {buffer = buffer} {at = at} ec ex ey short room ew en ee =
+    let line = stands buffer at _ (omega arith) ew en ee in
+    (rw (← ec, ← ex, ← ey) line, let next = line .next in omega arith)
 
 -- the place that is answered is within the buffer
 pub accepted-within : {end room : ℕ} → end ≤ room → writtenSays (W.Accepted end) .value ≤ room

@@ -9,7 +9,7 @@ ghost use Rattle.lines.specs.Says.{writtenSays};
 ghost use Rattle.lines.specs.Text.{lineRoom};
 ghost use Rattle.lines.specs.Writing.{Put};
 ghost use Rattle.transcript.specs.Room.{HasRoom, Replays, Fits};
-ghost use Rattle.transcript.specs.Replay.{partRefused, partOf, partBuffer, lastRoom, lastText, textFrom, roomFor, replayOf, replayedOf};
+ghost use Rattle.transcript.specs.Replay.{outcomeText, partRefused, partOf, partBuffer, lastRoom, lastText, textFrom, roomFor, replayOf, replayedOf};
 use clock::Clock;
 use clock::Timer;
 use counter::Counter;
@@ -24,6 +24,8 @@ use lines::put_line;
 use lines::put_tail;
 use machine::Core;
 use machine::Machine;
+use machine::Next;
+use machine::Outcome;
 use units::Cycles;
 use usage::ThreadUsage;
 
@@ -48,7 +50,17 @@ struct Replayed {
     pub machine: Machine,
 }
 
-// The lines of so many records. The thread records stay in one table, of which a step gets and gives back one.
+// A record's line. Room was asked for before the first one, so that each is written.
+fn put_outcome(out: &mut [u8], at: usize, number: u64, outcome: Outcome) -> usize
+    requires { ⌜ at + lineRoom ≤ length (now out) ⌝ }
+    ensures text { λ r. ⌜ Put (now (out .entry)) (now (out .exit)) at r (outcomeText number outcome) ⌝ }
+    ensures room { λ r. ⌜ r ≤ at + lineRoom ⌝ }
+{
+    let written = put_line(out, at, number, outcome.number(), outcome.x(), outcome.y());
+    written.end()
+}
+
+// The lines of so many records. The thread records stay in one table, of which a step gets and gives back at most one.
 fn put_records(
     machine: Machine,
     first: u64,
@@ -67,19 +79,26 @@ fn put_records(
     let mut from: usize = 0;
     let mut end = at;
     while 0 < left {
-        let decoded = trace::decode(trace, from);
-        let k = machine::slot(core, ThreadUsage::SLOTS, decoded);
-        let usage = threads[k];
-        let stepped = machine::core_step(core, usage, ThreadUsage::SLOTS, decoded);
-        let next = stepped.core;
-        core = core_afresh(next);
-        let outcome = stepped.outcome;
-        // Room was asked for before the first line, so that each one is written.
-        let written = put_line(out, end, number, outcome.number(), outcome.x(), outcome.y());
-        end = written.end();
+        let begun = machine::begin_at(core, ThreadUsage::SLOTS, trace, from);
+        let line = number;
         number = number + 1;
         from = from + 16;
         left = left - 1;
+        let next = begun.next;
+        // Most records concern no thread's record.
+        if let Next::Done(outcome) = next {
+            let after = begun.core;
+            core = core_afresh(after);
+            end = put_outcome(out, end, line, outcome);
+            continue;
+        }
+        let k = machine::place(begun, ThreadUsage::SLOTS);
+        let usage = threads[k];
+        let stepped = machine::finish(begun, usage);
+        let after = stepped.core;
+        core = core_afresh(after);
+        let outcome = stepped.outcome;
+        end = put_outcome(out, end, line, outcome);
         // Just set up: no record goes back, since all are fresh ones.
         if stepped.fresh {
             threads = [ThreadUsage::new_idle(); ThreadUsage::SLOTS];

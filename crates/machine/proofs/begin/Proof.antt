@@ -1,0 +1,20 @@
+-- `begin` tests the state first, then the bytes, then the table.
+use mathlib.Core.Path.{_∙_, sym}
+use Rattle.machine.specs.Step.{beginOf}
+use borrow.Author.Needs.{needs}
+use Rattle.machine.proofs.begin.Statement.{statement}
+use Rattle.machine.proofs.begin.Tie as tie
+
+returns : tie.Need-returns
+unfolding beginOf
+returns c = simp (← c .before .before .malformed .ensures, c .before .if1 .taken) (c .turned-away .ensures)
+
+decoded-begun-requires : tie.Need-decoded-begun-requires
+decoded-begun-requires c κs = sym (c .before .malformed .ensures) ∙ c .if1 .left
+
+returns-2 : tie.Need-returns-2
+unfolding beginOf
+returns-2 c = simp (← c .before .before .malformed .ensures, c .before .if1 .left) (c .decoded-begun .ensures)
+
+pub begin-spec : {M : Type 1} → statement M
+begin-spec = tie.close (tie.spec (λ c κs. search needs) (λ c κs. search needs) returns decoded-begun-requires returns-2)

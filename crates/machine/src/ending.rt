@@ -1,0 +1,89 @@
+// The second part of a step: with the one thread record concerned.
+ghost use mathlib.Core.Path.{_≡_};
+ghost use Rattle.ledger.specs.Operate.{entryOf};
+ghost use Rattle.machine.specs.Step.{withBooks, left, enteredStep, reportStep, freshStep};
+use crate::Core;
+use crate::CoreStep;
+use crate::Outcome;
+use crate::Reason;
+use crate::Values;
+use ledger::Books;
+use ledger::Entered;
+use ledger::Operation;
+use units::Cycles;
+use usage::ThreadUsage;
+
+// The record stays as it is.
+pub(crate) fn left(core: Core, usage: ThreadUsage, outcome: Outcome) -> CoreStep
+    ensures { λ r. ⌜ r ≡ left core usage outcome ⌝ }
+{
+    CoreStep {
+        outcome: outcome,
+        core: core,
+        usage: usage,
+        fresh: false,
+    }
+}
+
+fn with_books(core: Core, books: Books) -> Core
+    ensures { λ r. ⌜ r ≡ withBooks core books ⌝ }
+{
+    let timer = core.timer;
+    Core {
+        ready: core.ready,
+        timer: timer,
+        books: books,
+    }
+}
+
+// Of the ledger nothing changes where its entry is refused.
+fn entered_step(core: Core, usage: ThreadUsage, entered: Entered) -> CoreStep
+    ensures { λ r. ⌜ r ≡ enteredStep core usage entered ⌝ }
+{
+    let Entered::Accepted(entry) = entered else {
+        return left(core, usage, Outcome::Refused(Reason::WontFit));
+    };
+    let books = entry.books;
+    let next = entry.usage;
+    let values = Values {
+        x: entry.cycles as u64,
+        y: 0,
+    };
+    left(with_books(core, books), next, Outcome::Accepted(values))
+}
+
+pub(crate) fn enter(
+    core: Core,
+    usage: ThreadUsage,
+    reading: Cycles,
+    operation: Operation,
+) -> CoreStep
+    ensures { λ r. ⌜ r ≡ enteredStep core usage (entryOf (core .books) usage reading operation) ⌝ }
+{
+    let books = core.books;
+    let entered = ledger::enter(books, usage, reading, operation);
+    entered_step(core, usage, entered)
+}
+
+pub(crate) fn report(core: Core, usage: ThreadUsage) -> CoreStep
+    ensures { λ r. ⌜ r ≡ reportStep core usage ⌝ }
+{
+    let total = usage.total_cycles;
+    let average = usage::average_cycles(total, usage.num_windows);
+    let values = Values {
+        x: total.0,
+        y: average.0,
+    };
+    left(core, usage, Outcome::Accepted(values))
+}
+
+pub(crate) fn all_fresh(core: Core) -> CoreStep
+    ensures { λ r. ⌜ r ≡ freshStep core ⌝ }
+{
+    CoreStep {
+        outcome: Outcome::Accepted(Values { x: 0, y: 0 }),
+        core: core,
+        usage: ThreadUsage::new_idle(),
+        fresh: true,
+    }
+}

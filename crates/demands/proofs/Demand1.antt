@@ -21,11 +21,12 @@ use Rattle.clock.specs.Timer.{wellFormed}
 use Rattle.clock.specs.Run as clock
 use Rattle.clock.specs.Holds.{GoodSetup}
 use Rattle.clock.proofs.Runs as clock-runs
-use Rattle.ledger.specs.declared.Books.{Books}
+use Rattle.books.specs.declared.Books.{Books}
+use Rattle.books.specs.declared.Operation.the-variants as O
+use Rattle.books.specs.Enter.{unrecorded, past, busy, concerned}
+use Rattle.books.specs.Laws.{rises, full}
 use Rattle.ledger.specs.declared.Ledger.{Ledger}
-use Rattle.ledger.specs.declared.Operation.the-variants as O
-use Rattle.ledger.specs.Operate.{unrecorded, past, busy, concerned, recordOf}
-use Rattle.ledger.specs.Laws.{rises, full}
+use Rattle.ledger.specs.Operate.{recordOf}
 use Rattle.ledger.specs.Run as ledger
 use Rattle.ledger.specs.Holds.{Marked}
 use Rattle.ledger.proofs.Agreeing as ledger-runs

@@ -1,7 +1,8 @@
 -- Demand 2, gathered.
 use mathlib.Core.Path.{refl}
 use Rattle.usage.specs.Leaves.{averageCycles}
-use Rattle.ledger.specs.Stamp.{stampOf}
+use Rattle.books.specs.Stamp.{stampOf}
+use Rattle.books.proofs.Refusing as books
 use Rattle.ledger.proofs.Operated.{every-operation}
 use Rattle.ledger.proofs.Refusing as ledger
 use Rattle.machine.proofs.Answering.{every-answer}
@@ -36,7 +37,7 @@ demand2 = record {
   entry-refusals = entry-refusals;
   operations = every-operation;
   operation-refusals = ledger.every-refusal;
-  entry-of-one-record = ledger.every-entry;
+  entry-of-one-record = books.every-entry;
   records = every-answer;
   record-refusals = exactly;
   round-trip = round-trip;

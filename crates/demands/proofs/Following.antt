@@ -17,9 +17,9 @@ use Rattle.clock.specs.Announce.{announceOf}
 use Rattle.clock.specs.Run as clock
 use Rattle.clock.specs.Holds.{GoodSetup}
 use Rattle.clock.proofs.Runs.{every-run}
+use Rattle.books.specs.declared.Operation.{Operation}
+use Rattle.books.specs.declared.Operation.the-variants as O
 use Rattle.ledger.specs.declared.Ledger.{Ledger}
-use Rattle.ledger.specs.declared.Operation.{Operation}
-use Rattle.ledger.specs.declared.Operation.the-variants as O
 use Rattle.ledger.specs.declared.Answer.the-variants as A
 use Rattle.ledger.specs.Operate.{operateOf}
 use Rattle.ledger.specs.Holds.{Timely}

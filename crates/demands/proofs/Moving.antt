@@ -22,9 +22,9 @@ use Rattle.clock.specs.declared.Announced.the-variants as N
 use Rattle.clock.specs.Sample.{atC, sampleValue, sampleOf}
 use Rattle.clock.specs.Announce.{announceOf}
 use Rattle.clock.specs.Run as clock
+use Rattle.books.specs.declared.Operation.{Operation}
+use Rattle.books.specs.declared.Operation.the-variants as O
 use Rattle.ledger.specs.declared.Ledger.{Ledger}
-use Rattle.ledger.specs.declared.Operation.{Operation}
-use Rattle.ledger.specs.declared.Operation.the-variants as O
 use Rattle.ledger.specs.declared.Answer.{Answer}
 use Rattle.ledger.specs.declared.Answer.the-variants as A
 use Rattle.ledger.specs.Laws.{AnswerIs}

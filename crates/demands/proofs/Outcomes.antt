@@ -71,14 +71,15 @@ use Rattle.clock.proofs.Sampled.reading.Reads as clock-Sampled-reading
 use Rattle.clock.proofs.Announced.number.Reads as clock-Announced-number
 use Rattle.clock.proofs.Announced.refusal.Reads as clock-Announced-refusal
 use Rattle.clock.proofs.Announced.dticks.Reads as clock-Announced-dticks
-use Rattle.ledger.proofs.stamp_of.Reads as ledger-stamp-of
-use Rattle.ledger.proofs.runs.Reads as ledger-runs
-use Rattle.ledger.proofs.enter.Reads as ledger-enter
-use Rattle.ledger.proofs.Entered.refusal.Reads as ledger-Entered-refusal
-use Rattle.ledger.proofs.unrecorded.Reads as ledger-unrecorded
-use Rattle.ledger.proofs.past.Reads as ledger-past
-use Rattle.ledger.proofs.busy.Reads as ledger-busy
-use Rattle.ledger.proofs.concerned.Reads as ledger-concerned
+use Rattle.books.proofs.nothing_booked.Reads as books-nothing-booked
+use Rattle.books.proofs.stamp_of.Reads as books-stamp-of
+use Rattle.books.proofs.runs.Reads as books-runs
+use Rattle.books.proofs.enter.Reads as books-enter
+use Rattle.books.proofs.Entered.refusal.Reads as books-Entered-refusal
+use Rattle.books.proofs.unrecorded.Reads as books-unrecorded
+use Rattle.books.proofs.past.Reads as books-past
+use Rattle.books.proofs.busy.Reads as books-busy
+use Rattle.books.proofs.concerned.Reads as books-concerned
 use Rattle.ledger.proofs.operate.Reads as ledger-operate
 use Rattle.ledger.proofs.report.Reads as ledger-report
 use Rattle.ledger.proofs.Answer.number.Reads as ledger-Answer-number
@@ -157,7 +158,6 @@ use Rattle.lines.proofs.put_tail.Reads as lines-put-tail
 use Rattle.lines.proofs.put_input.Reads as lines-put-input
 use Rattle.transcript.proofs.replay.Reads as transcript-replay
 use Rattle.transcript.proofs.put_part.Reads as transcript-put-part
-use Rattle.ledger.proofs.nothing_booked.Reads as ledger-nothing-booked
 use Rattle.trace.proofs.reader.records_from.Reads as trace-records-from
 use Rattle.trace.proofs.reader.bytes_from.Reads as trace-bytes-from
 use Rattle.trace.proofs.reader.item_at.Reads as trace-item-at
@@ -340,16 +340,29 @@ clock-outcomes = (
   once _,
 )
 
+pub books-outcomes :
+    OneOutcome books-nothing-booked.Post ×
+    OneOutcome books-stamp-of.Post ×
+    OneOutcome books-runs.Post ×
+    OneOutcome books-enter.Post ×
+    OneOutcome books-Entered-refusal.Post ×
+    OneOutcome books-unrecorded.Post ×
+    OneOutcome books-past.Post ×
+    OneOutcome books-busy.Post ×
+    OneOutcome books-concerned.Post
+books-outcomes = (
+  once _,
+  once _,
+  once _,
+  once _,
+  once _,
+  once _,
+  once _,
+  once _,
+  once _,
+)
+
 pub ledger-outcomes :
-    OneOutcome ledger-nothing-booked.Post ×
-    OneOutcome ledger-stamp-of.Post ×
-    OneOutcome ledger-runs.Post ×
-    OneOutcome ledger-enter.Post ×
-    OneOutcome ledger-Entered-refusal.Post ×
-    OneOutcome ledger-unrecorded.Post ×
-    OneOutcome ledger-past.Post ×
-    OneOutcome ledger-busy.Post ×
-    OneOutcome ledger-concerned.Post ×
     OneOutcome ledger-operate.Post ×
     OneOutcome ledger-report.Post ×
     OneOutcome ledger-Answer-number.Post ×
@@ -359,15 +372,6 @@ pub ledger-outcomes :
     OneOutcome ledger-Reported-average.Post ×
     OneOutcome ledger-fresh.Post
 ledger-outcomes = (
-  once _,
-  once _,
-  once _,
-  once _,
-  once _,
-  once _,
-  once _,
-  once _,
-  once _,
   once _,
   once _,
   once _,

@@ -8,9 +8,10 @@ use Rattle.counter.specs.Entries.{goodPeriod, inRange, ranOf}
 use Rattle.clock.specs.Timer.{wellFormed}
 use Rattle.clock.specs.Sample.{sampleOf}
 use Rattle.clock.specs.Announce.{announceOf, announcedBy}
-use Rattle.ledger.specs.Stamp.{stampOf}
-use Rattle.ledger.specs.Entries.{runs, charged, withChange, onward, closeOf, stopOf, switchOf, altered, reopenOf, alterOf, enterOf}
-use Rattle.ledger.specs.Operate.{unrecorded, past, busy, entryOf, concerned, storedIn, operateOf}
+use Rattle.books.specs.Stamp.{stampOf}
+use Rattle.books.specs.Entries.{runs, charged, withChange, onward, closeOf, stopOf, switchOf, altered, reopenOf, alterOf, enterOf}
+use Rattle.books.specs.Enter.{unrecorded, past, busy, entryOf, concerned}
+use Rattle.ledger.specs.Operate.{storedIn, operateOf}
 use Rattle.ledger.specs.Sums.{sumOf}
 use Rattle.ledger.specs.Run as ledger
 use Rattle.machine.specs.Task.{taskOf, askedBy}

@@ -16,9 +16,10 @@ use Rattle.clock.specs.Sample.{sampleOf}
 use Rattle.clock.specs.Announce.{announceOf, announcedBy}
 use Rattle.clock.specs.Shown.{gaps}
 use Rattle.clock.specs.Holds.{GoodSetup}
-use Rattle.ledger.specs.Stamp.{stampOf}
-use Rattle.ledger.specs.Entries.{runs, charged, withChange, onward, closeOf, stopOf, switchOf, altered, reopenOf, alterOf, enterOf}
-use Rattle.ledger.specs.Operate.{unrecorded, past, busy, entryOf, concerned, storedIn, recordOf, operateOf}
+use Rattle.books.specs.Stamp.{stampOf}
+use Rattle.books.specs.Entries.{runs, charged, withChange, onward, closeOf, stopOf, switchOf, altered, reopenOf, alterOf, enterOf}
+use Rattle.books.specs.Enter.{unrecorded, past, busy, entryOf, concerned}
+use Rattle.ledger.specs.Operate.{storedIn, recordOf, operateOf}
 use Rattle.ledger.specs.Sums.{sumOf}
 use Rattle.ledger.specs.Run as ledger
 use Rattle.trace.specs.declared.Record.the-variants as K

@@ -22,14 +22,15 @@ use Rattle.clock.specs.Announce.{announceOf}
 use Rattle.clock.specs.Run as clock
 use Rattle.clock.specs.Holds.{GoodSetup}
 use Rattle.clock.proofs.Runs.{every-run}
+use Rattle.books.specs.declared.Operation.{Operation}
+use Rattle.books.specs.declared.Entered.{Entered}
+use Rattle.books.specs.declared.Entered.the-variants as E
+use Rattle.books.specs.Enter.{concerned}
 use Rattle.ledger.specs.declared.Ledger.{Ledger}
-use Rattle.ledger.specs.declared.Operation.{Operation}
 use Rattle.ledger.specs.declared.Answer.{Answer}
 use Rattle.ledger.specs.declared.Answer.the-variants as A
-use Rattle.ledger.specs.declared.Entered.{Entered}
-use Rattle.ledger.specs.declared.Entered.the-variants as E
 use Rattle.ledger.specs.declared.Ledgered.{Ledgered}
-use Rattle.ledger.specs.Operate.{freshOf, concerned, refusedWith, storedIn, operateTests, operateOf}
+use Rattle.ledger.specs.Operate.{freshOf, refusedWith, storedIn, operateTests, operateOf}
 use Rattle.ledger.specs.Run as ledger
 use Rattle.trace.specs.declared.Record.{Record}
 use Rattle.trace.specs.declared.Decoded.{Decoded}

@@ -1,4 +1,5 @@
 -- Demand 2, gathered: upstream's clauses, 01's formulas and exact refusals, and the round trip.
+use Rattle.books.specs.Laws as books
 use Rattle.ledger.specs.Laws as ledger
 use Rattle.trace.specs.declared.Decoded.{Decoded}
 use Rattle.machine.specs.declared.Machine.{Machine}
@@ -34,7 +35,7 @@ pub record Demand2 (step : Machine → Decoded → Stepped) : Type 0 where
   pub entry-refusals : EntryRefusals
   pub operations : ledger.EveryOperation
   pub operation-refusals : ledger.EveryRefusal
-  pub entry-of-one-record : ledger.EveryEntry
+  pub entry-of-one-record : books.EveryEntry
   pub records : EveryAnswer step
   pub record-refusals : (m : Machine) (d : Decoded) → Exactly step (rowsOf m d) m d
   -- For a tick above 0, ticks made into cycles come back as the same ticks, wherever they fit.

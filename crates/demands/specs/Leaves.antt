@@ -16,7 +16,7 @@ use Rattle.usage.specs.Record.{newIdle}
 use Rattle.usage.specs.Leaves.{enabled, disabled, accumulated, averageCycles, elapsedCycles as elapsedStamps}
 use Rattle.usage.specs.Says.{changedSays}
 use Rattle.usage.specs.declared.ThreadUsage.{ThreadUsage}
-use Rattle.ledger.specs.Stamp.{stampOf}
+use Rattle.books.specs.Stamp.{stampOf}
 use Rattle.demands.specs.Exact.{Exact}
 
 abbrev pub ElapsedCyclesExact : Type 0

@@ -23,9 +23,10 @@ use Rattle.clock.specs.Timer.{setup, setupTests, setUp, wellFormed}
 use Rattle.clock.specs.Sample.{sampleTests, sampleValue, sampleOf}
 use Rattle.clock.specs.Announce.{announcementFrom, announceOf}
 use Rattle.usage.specs.Leaves.{averageCycles}
+use Rattle.books.specs.Enter.{unrecorded}
 use Rattle.ledger.specs.declared.Ledger.{Ledger}
 use Rattle.ledger.specs.declared.Reported.the-variants as P
-use Rattle.ledger.specs.Operate.{unrecorded, recordOf, reportOf}
+use Rattle.ledger.specs.Operate.{recordOf, reportOf}
 
 pub record ByRows {Reason Answer : Type 0} (rows : List (Row Reason)) (refuse : Reason → Answer) (answer outcome : Answer) : Type 0 where
   pub refused : (why : Reason) → (outcome ≡ refuse why) ↔ FirstIs rows why

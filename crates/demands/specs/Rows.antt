@@ -8,7 +8,7 @@ use Rattle.error.specs.Numbers.{max32, max64}
 use Rattle.error.specs.InOrder.{Row}
 use Rattle.clock.specs.declared.Gaps.{Gaps}
 use Rattle.clock.specs.Announce.{announceOf}
-use Rattle.ledger.specs.declared.Operation.the-variants as O
+use Rattle.books.specs.declared.Operation.the-variants as O
 use Rattle.trace.specs.declared.Record.the-variants as K
 use Rattle.trace.specs.declared.Decoded.{Decoded}
 use Rattle.trace.specs.declared.Decoded.the-variants as D

@@ -7,7 +7,7 @@ use native.Mathlib.Omega.{arith}
 use lib.Dec.{eqb}
 use borrow.Author.Tests.{eqb-true, eqb-false}
 use Rattle.error.specs.Numbers.{max64}
-use Rattle.ledger.specs.Stamp.{stampOf}
+use Rattle.books.specs.Stamp.{stampOf}
 use Rattle.ledger.specs.Sums.{Stretch, sumOf, chainOf, firstOf, trueCycles, measured, multiple, off, edge, Short, AllShort, ChainShort, Ordered, ChainOrdered, Within}
 use Rattle.ledger.specs.Holds.{StampsNear}
 

@@ -15,23 +15,24 @@ use Rattle.error.proofs.Ordered.{by-outcome}
 use Rattle.usage.specs.declared.ThreadUsage.{ThreadUsage}
 use Rattle.usage.specs.Record.{newIdle}
 use Rattle.usage.specs.Leaves.{elapsedCycles}
-use Rattle.ledger.specs.declared.Books.{Books}
-use Rattle.ledger.specs.declared.Entry.{Entry}
-use Rattle.ledger.specs.declared.Operation.{Operation}
-use Rattle.ledger.specs.declared.Operation.the-variants as O
+use Rattle.books.specs.declared.Books.{Books}
+use Rattle.books.specs.declared.Entry.{Entry}
+use Rattle.books.specs.declared.Operation.{Operation}
+use Rattle.books.specs.declared.Operation.the-variants as O
+use Rattle.books.specs.Stamp.{stampOf}
+use Rattle.books.specs.Entries.{stopped, runs, enterOf}
+use Rattle.books.specs.Enter.{unrecorded, past, busy, concerned}
+use Rattle.books.specs.Laws.{closes, flagAfter, stampAfter, runningAfter, EntryIs}
+use Rattle.books.proofs.Entering.{entry-is}
 use Rattle.ledger.specs.declared.Answer.the-variants as A
 use Rattle.ledger.specs.declared.Ledgered.{Ledgered}
-use Rattle.ledger.specs.Stamp.{stampOf}
-use Rattle.ledger.specs.Entries.{stopped, runs, enterOf}
-use Rattle.ledger.specs.Laws.{closes, flagAfter, stampAfter, runningAfter, EntryIs}
-use Rattle.ledger.specs.Operate.{unrecorded, past, busy, concerned, recordOf, refusedWith, operateTests, operateOf}
+use Rattle.ledger.specs.Operate.{recordOf, refusedWith, operateTests, operateOf}
 use Rattle.ledger.specs.Sums.{sumOf, allOf, chainOf, measured}
 use Rattle.ledger.specs.Run.{World, Event, Open, none, since, begin, isNone, isOf, closesNow, begins, openAfter, trackedAfter, shut, afterAnswer, step, after}
 use Rattle.ledger.specs.Holds.{Marked, EveryRun}
 use Rattle.ledger.proofs.Operating.{within}
 use Rattle.ledger.proofs.Adding.{stamp-sums, stamp-chain}
 use Rattle.ledger.proofs.Timing.{in-time}
-use Rattle.ledger.proofs.Entering.{entry-is}
 use Rattle.ledger.proofs.Operated.{stored-by}
 use Rattle.ledger.proofs.Refusing.{never-invalid, report-never-invalid}
 

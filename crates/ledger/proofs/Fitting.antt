@@ -10,13 +10,14 @@ use Rattle.error.proofs.Tests.{clash}
 use Rattle.error.specs.Numbers.{max64}
 use Rattle.usage.specs.declared.ThreadUsage.{ThreadUsage}
 use Rattle.usage.specs.Leaves.{elapsedCycles}
-use Rattle.ledger.specs.declared.Books.{Books}
-use Rattle.ledger.specs.declared.Operation.{Operation}
-use Rattle.ledger.specs.declared.Operation.the-variants as O
-use Rattle.ledger.specs.Stamp.{stampOf}
-use Rattle.ledger.specs.Entries.{stopped, runs}
-use Rattle.ledger.specs.Laws.{closes, tooMany}
-use Rattle.ledger.specs.Operate.{concerned, recordOf}
+use Rattle.books.specs.declared.Books.{Books}
+use Rattle.books.specs.declared.Operation.{Operation}
+use Rattle.books.specs.declared.Operation.the-variants as O
+use Rattle.books.specs.Stamp.{stampOf}
+use Rattle.books.specs.Entries.{stopped, runs}
+use Rattle.books.specs.Enter.{concerned}
+use Rattle.books.specs.Laws.{closes, tooMany}
+use Rattle.ledger.specs.Operate.{recordOf}
 use Rattle.ledger.specs.Sums.{Stretch, sumOf, allOf, measured}
 use Rattle.ledger.specs.Run.{World, Event, Open, none, since, begin, after}
 use Rattle.ledger.specs.Holds.{Marked, SumsFit}

@@ -1,7 +1,5 @@
-pub mod Outcomes
 pub mod Operating
 pub mod Adding
-pub mod Entering
 pub mod Operated
 pub mod Refusing
 pub mod Timing

@@ -6,18 +6,19 @@ use lib.Seq.{getD-set-same, getD-set-other}
 use Rattle.error.specs.declared.Refusal.{Refusal}
 use Rattle.error.proofs.Ordered.{by-outcome}
 use Rattle.usage.specs.Record.{newIdle}
-use Rattle.ledger.specs.declared.Entry.{Entry}
-use Rattle.ledger.specs.declared.Entered.{Entered}
-use Rattle.ledger.specs.declared.Entered.the-variants as E
+use Rattle.books.specs.declared.Entry.{Entry}
+use Rattle.books.specs.declared.Entered.{Entered}
+use Rattle.books.specs.declared.Entered.the-variants as E
+use Rattle.books.specs.Stamp.{stampOf}
+use Rattle.books.specs.Entries.{enterOf}
+use Rattle.books.specs.Enter.{concerned}
+use Rattle.books.proofs.Entering.{entry-is}
 use Rattle.ledger.specs.declared.Ledger.{Ledger}
 use Rattle.ledger.specs.declared.Answer.the-variants as A
 use Rattle.ledger.specs.declared.Ledgered.{Ledgered}
-use Rattle.ledger.specs.Stamp.{stampOf}
-use Rattle.ledger.specs.Entries.{enterOf}
-use Rattle.ledger.specs.Operate.{concerned, recordOf, refusedWith, storedIn, operateTests, operateOf}
+use Rattle.ledger.specs.Operate.{recordOf, refusedWith, storedIn, operateTests, operateOf}
 use Rattle.ledger.specs.Laws.{AnswerIs, EveryOperation}
 use Rattle.ledger.proofs.Operating.{within}
-use Rattle.ledger.proofs.Entering.{entry-is}
 
 -- what holds of every refusal and of what an accepted entry leaves holds of the outcome
 pub stored-by : (l : Ledger) (at : ℕ) (P : Ledgered → Type 0) (x : Entered) → ((why : Refusal) → P (refusedWith l why)) → ((e : Entry) → x ≡ E.Accepted e → P (record { answer = A.Accepted (e .cycles); ledger = record { books = e .books; threads = set (l .threads) at (e .usage) } })) → P (storedIn l at x)

@@ -1,6 +1,6 @@
 -- Each outcome of an operation on the whole ledger, over a table of any number of slots.
 use Prim.Native.Nat.{ℕ, _≤_, _<_}
-use mathlib.Core.Path.{_≡_, refl, sym, ap, _∙_}
+use mathlib.Core.Path.{_≡_, sym, ap, _∙_}
 use mathlib.Core.Bool.{Bool, true, false, cond, not, _&&_}
 use mathlib.Core.List.{List, map}
 use lib.ListN.{length, length-map}
@@ -9,21 +9,20 @@ use borrow.Author.Tests.{leb-false, le-leb, lt-leb}
 use Rattle.error.specs.declared.Refusal.{Refusal}
 use Rattle.error.specs.declared.Refusal.the-variants.{Invalid, BadThread, Already}
 use Rattle.units.specs.declared.Cycles.{Cycles}
-use Rattle.usage.specs.declared.ThreadUsage.{ThreadUsage}
-use Rattle.ledger.specs.declared.Books.{Books}
-use Rattle.ledger.specs.declared.Entry.{Entry}
-use Rattle.ledger.specs.declared.Entered.{Entered}
-use Rattle.ledger.specs.declared.Entered.the-variants as E
-use Rattle.ledger.specs.declared.Operation.{Operation}
-use Rattle.ledger.specs.declared.Operation.the-variants as O
+use Rattle.usage.specs.Leaves.{averageCycles}
+use Rattle.books.specs.declared.Books.{Books}
+use Rattle.books.specs.declared.Entry.{Entry}
+use Rattle.books.specs.declared.Entered.{Entered}
+use Rattle.books.specs.declared.Entered.the-variants as E
+use Rattle.books.specs.declared.Operation.{Operation}
+use Rattle.books.specs.declared.Operation.the-variants as O
+use Rattle.books.specs.Enter.{unrecorded, past, busy, entryOf, concerned}
+use Rattle.books.specs.Says.{enteredWhy}
+use Rattle.books.proofs.Outcomes.{entry-free}
 use Rattle.ledger.specs.declared.Ledger.{Ledger}
 use Rattle.ledger.specs.declared.Ledgered.{Ledgered}
 use Rattle.ledger.specs.declared.Reported.the-variants as R
-use Rattle.ledger.specs.Stamp.{stampOf}
-use Rattle.ledger.specs.Entries.{enterOf}
-use Rattle.ledger.specs.Operate.{unrecorded, past, busy, entryOf, concerned, recordOf, refusedWith, storedIn, operateOf, reportOf}
-use Rattle.usage.specs.Leaves.{averageCycles}
-use Rattle.ledger.specs.Says.{enteredWhy}
+use Rattle.ledger.specs.Operate.{recordOf, refusedWith, storedIn, operateOf, reportOf}
 
 -- what owning an array tells of its list: its length
 pub counted : {A B : Type 0} (l : List A) (f : A → B) (n : ℕ) → length (map f l) ≡ n → length l ≡ n
@@ -62,10 +61,10 @@ module _ (l : Ledger) (reading : Cycles) (op : Operation) {slots : ℕ} (n : len
       unfolding operateOf
       under-way e = simp (n, recorded, named, e)
 
-      module _ (free : busy (l .books) op ≡ false) {k s : ℕ} {x : Entered} (ek : k ≡ concerned (l .books) op) (es : s ≡ stampOf (reading .0)) (ex : x ≡ enterOf (l .books) (recordOf l k) s op) where
+      module _ (free : busy (l .books) op ≡ false) {k : ℕ} {x : Entered} (ek : k ≡ concerned (l .books) op) (ex : x ≡ entryOf (l .books) (recordOf l k) reading op) where
         storing : operateOf l reading op ≡ storedIn l k x
         unfolding operateOf
-        storing = simp (n, recorded, named, free, ex, es, ek)
+        storing = simp (n, recorded, named, free, ex ∙ entry-free (l .books) (recordOf l k) reading op free, ek)
 
         pub entry-refused : {why handed-on : Refusal} {answer : Ledgered} → x ≡ E.Refused why → handed-on ≡ enteredWhy x → answer ≡ refusedWith l handed-on → answer ≡ operateOf l reading op
         unfolding storedIn enteredWhy
@@ -86,8 +85,3 @@ module _ (l : Ledger) (i : ℕ) {slots : ℕ} (n : length (l .threads) ≡ slots
   pub reported : {average : Cycles} → unrecorded (l .books) slots ≡ false → i < slots → average ≡ averageCycles (recordOf l i .«total_cycles») (recordOf l i .«num_windows») → R.Accepted (record { total = recordOf l i .«total_cycles»; average = average }) ≡ reportOf l i
   unfolding reportOf
   reported e h a = simp (n, e, lt-leb _ _ h, a)
-
--- no start while one runs: the entry is made
-pub entry-free : (b : Books) (u : ThreadUsage) (reading : Cycles) (op : Operation) → busy b op ≡ false → entryOf b u reading op ≡ enterOf b u (stampOf (reading .0)) op
-unfolding entryOf
-entry-free b u reading op free = rw free refl

@@ -2,9 +2,10 @@
 use mathlib.Core.Path.{refl}
 use native.Mathlib.Omega.{arith}
 use Rattle.usage.specs.Leaves.{enabled, accumulated}
-use Rattle.ledger.specs.Stamp.{stampOf}
-use Rattle.ledger.specs.Entries.{runs, charged, withChange, onward, closeOf, stopOf, switchOf, altered, reopenOf, alterOf, enterOf}
-use Rattle.ledger.specs.Operate.{unrecorded, past, busy, concerned, storedIn, operateOf}
+use Rattle.books.specs.Stamp.{stampOf}
+use Rattle.books.specs.Entries.{runs, charged, withChange, onward, closeOf, stopOf, switchOf, altered, reopenOf, alterOf, enterOf}
+use Rattle.books.specs.Enter.{unrecorded, past, busy, concerned}
+use Rattle.ledger.specs.Operate.{storedIn, operateOf}
 use Rattle.ledger.specs.Sums.{sumOf}
 use Rattle.ledger.specs.Run.{closesNow, begins, openAfter, trackedAfter, step, after}
 use Rattle.ledger.specs.Shown.{Shown}

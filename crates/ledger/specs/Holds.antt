@@ -6,14 +6,15 @@ use mathlib.Core.List.{List, [], _∷_}
 use Rattle.error.specs.Numbers.{max64}
 use Rattle.error.specs.declared.Refusal.the-variants.{Invalid}
 use Rattle.units.specs.declared.Cycles.{Cycles}
-use Rattle.ledger.specs.declared.Books.{Books}
-use Rattle.ledger.specs.declared.Operation.{Operation}
+use Rattle.usage.specs.Leaves.{elapsedCycles}
+use Rattle.books.specs.declared.Books.{Books}
+use Rattle.books.specs.declared.Operation.{Operation}
+use Rattle.books.specs.Stamp.{stampOf}
+use Rattle.books.specs.Enter.{concerned}
+use Rattle.books.specs.Laws.{closes, tooMany}
 use Rattle.ledger.specs.declared.Answer.the-variants as A
 use Rattle.ledger.specs.declared.Reported.the-variants as R
-use Rattle.usage.specs.Leaves.{elapsedCycles}
-use Rattle.ledger.specs.Stamp.{stampOf}
-use Rattle.ledger.specs.Operate.{concerned, recordOf, operateOf, reportOf}
-use Rattle.ledger.specs.Laws.{closes, tooMany}
+use Rattle.ledger.specs.Operate.{recordOf, operateOf, reportOf}
 use Rattle.ledger.specs.Sums.{trueCycles, sumOf, allOf, chainOf, firstOf, measured, edge, Short, AllShort, ChainShort, Within}
 use Rattle.ledger.specs.Run.{World, Event, Open, none, since, begin, after}
 

@@ -1,5 +1,3 @@
-pub mod Stamp
-pub mod Entries
 pub mod Operate
 pub mod Says
 pub mod Sums

@@ -1,10 +1,6 @@
 -- What each answer of the ledger says: 01's number and values for each of its cases.
 use Prim.Native.Nat.{ℕ}
-use Rattle.error.specs.declared.Refusal.{Refusal}
-use Rattle.error.specs.declared.Refusal.the-variants.{Invalid}
 use Rattle.error.specs.Said.{Said, accepted, refused}
-use Rattle.ledger.specs.declared.Entered.{Entered}
-use Rattle.ledger.specs.declared.Entered.the-variants as E
 use Rattle.ledger.specs.declared.Answer.{Answer}
 use Rattle.ledger.specs.declared.Answer.the-variants as A
 use Rattle.ledger.specs.declared.ThreadReport.{ThreadReport}
@@ -19,8 +15,3 @@ answerSays (A.Refused why) = refused why 0
 unfoldable pub reportedSays : Reported → Said ThreadReport
 reportedSays (R.Accepted report) = accepted report
 reportedSays (R.Refused why) = refused why (record { total = record { 0 = 0 }; average = record { 0 = 0 } })
-
--- why it was refused; of an accepted answer nobody asks, and Invalid stands in
-unfoldable pub enteredWhy : Entered → Refusal
-enteredWhy (E.Accepted e) = Invalid
-enteredWhy (E.Refused why) = why

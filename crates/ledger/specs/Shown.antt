@@ -2,8 +2,8 @@
 use Prim.Native.Nat.{ℕ, _-_}
 use mathlib.Core.Path.{_≡_}
 use mathlib.Core.List.{[], _∷_}
-use Rattle.ledger.specs.declared.Operation.{Operation}
-use Rattle.ledger.specs.declared.Operation.the-variants as O
+use Rattle.books.specs.declared.Operation.{Operation}
+use Rattle.books.specs.declared.Operation.the-variants as O
 use Rattle.ledger.specs.Operate.{recordOf}
 use Rattle.ledger.specs.Sums.{trueCycles, sumOf, edge, measured, AllShort, ChainShort}
 use Rattle.ledger.specs.Run.{World, Event, begin, after}

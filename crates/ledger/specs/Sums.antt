@@ -5,7 +5,7 @@ use mathlib.Core.Bool.{Bool, true, cond, _&&_, _||_}
 use mathlib.Core.List.{List, [], _∷_}
 use lib.Dec.{eqb}
 use Rattle.usage.specs.Leaves.{elapsedCycles}
-use Rattle.ledger.specs.Stamp.{stampOf}
+use Rattle.books.specs.Stamp.{stampOf}
 
 -- a closed stretch: its thread, whether that was tracked, and the true times at which it began and ended
 pub record Stretch : Type 0 where

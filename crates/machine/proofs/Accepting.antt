@@ -20,7 +20,7 @@ use Rattle.clock.specs.declared.SetUp.{SetUp}
 use Rattle.clock.specs.declared.SetUp.the-variants as U
 use Rattle.clock.specs.Timer.{wellFormed}
 use Rattle.clock.proofs.Outcomes.{formed-valid, sampled, set-up}
-use Rattle.ledger.specs.Operate.{unrecorded}
+use Rattle.books.specs.Enter.{unrecorded}
 use Rattle.machine.specs.declared.Core.{Core}
 use Rattle.machine.specs.declared.tasks.Asked.{Asked}
 use Rattle.machine.specs.declared.tasks.Task.{Task}

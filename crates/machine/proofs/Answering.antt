@@ -22,17 +22,18 @@ use Rattle.clock.specs.declared.Announced.the-variants as A
 use Rattle.clock.specs.Timer.{wellFormed}
 use Rattle.clock.specs.Sample.{readingOf, sampleValue}
 use Rattle.clock.specs.Announce.{announcementFrom, announcedBy, announceOf}
-use Rattle.ledger.specs.declared.Books.{Books}
-use Rattle.ledger.specs.declared.Entered.{Entered}
-use Rattle.ledger.specs.declared.Entered.the-variants as E
-use Rattle.ledger.specs.declared.Operation.the-variants as L
-use Rattle.ledger.specs.declared.Operation.{Operation}
-use Rattle.ledger.specs.Entries.{enterOf}
-use Rattle.ledger.specs.Stamp.{stampOf}
-use Rattle.ledger.specs.Operate.{concerned, recordOf}
-use Rattle.ledger.specs.Laws.{closes}
-use Rattle.ledger.proofs.Entering.{entry-is}
-use Rattle.ledger.proofs.Operating.{entry-free}
+use Rattle.books.specs.declared.Books.{Books}
+use Rattle.books.specs.declared.Entered.{Entered}
+use Rattle.books.specs.declared.Entered.the-variants as E
+use Rattle.books.specs.declared.Operation.the-variants as L
+use Rattle.books.specs.declared.Operation.{Operation}
+use Rattle.books.specs.Entries.{enterOf}
+use Rattle.books.specs.Stamp.{stampOf}
+use Rattle.books.specs.Enter.{concerned}
+use Rattle.books.specs.Laws.{closes}
+use Rattle.books.proofs.Entering.{entry-is}
+use Rattle.books.proofs.Outcomes.{entry-free}
+use Rattle.ledger.specs.Operate.{recordOf}
 use Rattle.trace.specs.declared.Record.{Record}
 use Rattle.trace.specs.declared.Record.the-variants as K
 use Rattle.trace.specs.declared.Decoded.the-variants as D

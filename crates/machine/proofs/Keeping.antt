@@ -16,9 +16,9 @@ use Rattle.clock.specs.declared.Announced.{Announced}
 use Rattle.clock.specs.declared.Announced.the-variants as A
 use Rattle.clock.specs.Sample.{sampleValue}
 use Rattle.clock.specs.Announce.{announceOf}
-use Rattle.ledger.specs.declared.Entered.{Entered}
-use Rattle.ledger.specs.declared.Entered.the-variants as E
-use Rattle.ledger.specs.declared.Operation.{Operation}
+use Rattle.books.specs.declared.Entered.{Entered}
+use Rattle.books.specs.declared.Entered.the-variants as E
+use Rattle.books.specs.declared.Operation.{Operation}
 use Rattle.ledger.specs.Operate.{recordOf}
 use Rattle.trace.specs.declared.Record.{Record}
 use Rattle.trace.specs.declared.Record.the-variants as K

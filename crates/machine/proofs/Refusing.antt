@@ -14,14 +14,15 @@ use Rattle.clock.specs.declared.Announced.{Announced}
 use Rattle.clock.specs.declared.Announced.the-variants as A
 use Rattle.clock.specs.Timer.{wellFormed}
 use Rattle.clock.specs.Sample.{sampleValue}
-use Rattle.ledger.specs.declared.Books.{Books}
-use Rattle.ledger.specs.declared.Entered.{Entered}
-use Rattle.ledger.specs.declared.Entered.the-variants as E
-use Rattle.ledger.specs.declared.Operation.{Operation}
-use Rattle.ledger.specs.declared.Operation.the-variants as P
-use Rattle.ledger.specs.Operate.{unrecorded, past, concerned, recordOf}
-use Rattle.ledger.proofs.Operating.{entry-free}
-use Rattle.ledger.proofs.Refusing.{EntryBy, entry-by}
+use Rattle.books.specs.declared.Books.{Books}
+use Rattle.books.specs.declared.Entered.{Entered}
+use Rattle.books.specs.declared.Entered.the-variants as E
+use Rattle.books.specs.declared.Operation.{Operation}
+use Rattle.books.specs.declared.Operation.the-variants as P
+use Rattle.books.specs.Enter.{unrecorded, past, concerned}
+use Rattle.books.proofs.Outcomes.{entry-free}
+use Rattle.books.proofs.Refusing.{EntryBy, entry-by}
+use Rattle.ledger.specs.Operate.{recordOf}
 use Rattle.trace.specs.declared.Decoded.{Decoded}
 use Rattle.trace.specs.declared.Decoded.the-variants as D
 use Rattle.machine.specs.declared.Core.{Core}

@@ -6,9 +6,9 @@ use Rattle.counter.specs.Cycle.{cycle, runN}
 use Rattle.counter.specs.Entries.{goodPeriod, inRange}
 use Rattle.clock.specs.Timer.{wellFormed}
 use Rattle.clock.specs.Announce.{announceOf, announcedBy}
-use Rattle.ledger.specs.Stamp.{stampOf}
-use Rattle.ledger.specs.Entries.{runs, charged, withChange, onward, closeOf, stopOf, switchOf, altered, reopenOf, alterOf, enterOf}
-use Rattle.ledger.specs.Operate.{unrecorded, past, busy, entryOf, concerned}
+use Rattle.books.specs.Stamp.{stampOf}
+use Rattle.books.specs.Entries.{runs, charged, withChange, onward, closeOf, stopOf, switchOf, altered, reopenOf, alterOf, enterOf}
+use Rattle.books.specs.Enter.{unrecorded, past, busy, entryOf, concerned}
 use Rattle.machine.specs.Task.{taskOf, askedBy}
 use Rattle.machine.specs.Table.{malformed, crowded}
 use Rattle.machine.specs.Step.{announcedBegun, effectOf, taskBegun, decodedBegun, beginOf, nextThread, placeOf, enteredStep, finishNext, stepOf}

@@ -16,11 +16,12 @@ use Rattle.clock.specs.declared.Announced.the-variants as A
 use Rattle.clock.specs.Timer.{setup}
 use Rattle.clock.specs.Sample.{sampleValue}
 use Rattle.clock.specs.Announce.{announceOf}
-use Rattle.ledger.specs.declared.Entered.{Entered}
-use Rattle.ledger.specs.declared.Entered.the-variants as E
+use Rattle.books.specs.declared.Entered.{Entered}
+use Rattle.books.specs.declared.Entered.the-variants as E
+use Rattle.books.specs.Enter.{concerned}
+use Rattle.books.proofs.Outcomes.{entry-free}
 use Rattle.ledger.specs.declared.Ledger.{Ledger}
-use Rattle.ledger.specs.Operate.{concerned, recordOf, storedIn, operateOf, freshOf}
-use Rattle.ledger.proofs.Operating.{entry-free}
+use Rattle.ledger.specs.Operate.{recordOf, storedIn, operateOf, freshOf}
 use Rattle.trace.specs.declared.Record.{Record}
 use Rattle.trace.specs.declared.Record.the-variants as K
 use Rattle.trace.specs.declared.Setup.{Setup}

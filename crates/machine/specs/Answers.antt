@@ -10,11 +10,12 @@ use Rattle.usage.specs.Leaves.{elapsedCycles, averageCycles}
 use Rattle.counter.specs.declared.Counter.{Counter}
 use Rattle.counter.specs.Cycle.{runN, cleared}
 use Rattle.clock.specs.declared.Timer.{Timer}
-use Rattle.ledger.specs.declared.Operation.{Operation}
-use Rattle.ledger.specs.declared.Operation.the-variants as L
-use Rattle.ledger.specs.Stamp.{stampOf}
-use Rattle.ledger.specs.Operate.{freshOf, concerned, recordOf, operateOf}
-use Rattle.ledger.specs.Laws.{closes}
+use Rattle.books.specs.declared.Operation.{Operation}
+use Rattle.books.specs.declared.Operation.the-variants as L
+use Rattle.books.specs.Stamp.{stampOf}
+use Rattle.books.specs.Enter.{concerned}
+use Rattle.books.specs.Laws.{closes}
+use Rattle.ledger.specs.Operate.{freshOf, recordOf, operateOf}
 use Rattle.trace.specs.declared.Record.{Record}
 use Rattle.trace.specs.declared.Record.the-variants as K
 use Rattle.machine.specs.declared.Machine.{Machine}

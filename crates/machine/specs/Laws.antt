@@ -10,12 +10,13 @@ use Rattle.clock.specs.declared.Announced.{Announced}
 use Rattle.clock.specs.declared.Announced.the-variants as A
 use Rattle.clock.specs.Sample.{readingOf}
 use Rattle.clock.specs.Announce.{announceOf}
-use Rattle.ledger.specs.declared.Operation.{Operation}
+use Rattle.books.specs.declared.Operation.{Operation}
+use Rattle.books.specs.Stamp.{stampOf}
+use Rattle.books.specs.Enter.{concerned}
+use Rattle.books.specs.Laws.{full}
 use Rattle.ledger.specs.declared.Answer.{Answer}
 use Rattle.ledger.specs.declared.Answer.the-variants as N
-use Rattle.ledger.specs.Stamp.{stampOf}
-use Rattle.ledger.specs.Operate.{concerned, recordOf}
-use Rattle.ledger.specs.Laws.{full}
+use Rattle.ledger.specs.Operate.{recordOf}
 use Rattle.trace.specs.declared.Record.{Record}
 use Rattle.trace.specs.declared.Record.the-variants as K
 use Rattle.trace.specs.declared.Decoded.{Decoded}

@@ -11,8 +11,8 @@ use Rattle.counter.specs.declared.Counter.{Counter}
 use Rattle.clock.specs.declared.Gaps.{Gaps}
 use Rattle.clock.specs.declared.Clock.{Clock}
 use Rattle.clock.specs.Shown.{gaps}
-use Rattle.ledger.specs.declared.Books.{Books}
-use Rattle.ledger.specs.Operate.{nothingBooked}
+use Rattle.books.specs.declared.Books.{Books}
+use Rattle.books.specs.Enter.{nothingBooked}
 use Rattle.trace.specs.declared.Record.{Record}
 use Rattle.trace.specs.declared.Record.the-variants as K
 use Rattle.trace.specs.declared.Decoded.the-variants as D

@@ -16,11 +16,12 @@ use Rattle.clock.specs.declared.Announced.the-variants as A
 use Rattle.clock.specs.Timer.{setup}
 use Rattle.clock.specs.Sample.{sampleValue}
 use Rattle.clock.specs.Announce.{announceOf}
-use Rattle.ledger.specs.declared.Books.{Books}
-use Rattle.ledger.specs.declared.Operation.{Operation}
-use Rattle.ledger.specs.declared.Entered.{Entered}
-use Rattle.ledger.specs.declared.Entered.the-variants as E
-use Rattle.ledger.specs.Operate.{concerned, entryOf, nothingBooked, freshOf}
+use Rattle.books.specs.declared.Books.{Books}
+use Rattle.books.specs.declared.Operation.{Operation}
+use Rattle.books.specs.declared.Entered.{Entered}
+use Rattle.books.specs.declared.Entered.the-variants as E
+use Rattle.books.specs.Enter.{concerned, entryOf, nothingBooked}
+use Rattle.ledger.specs.Operate.{freshOf}
 use Rattle.trace.specs.declared.Setup.{Setup}
 use Rattle.trace.specs.declared.Decoded.{Decoded}
 use Rattle.trace.specs.declared.Decoded.the-variants as D

@@ -9,7 +9,7 @@ use Rattle.error.specs.Numbers.{max32, max64}
 use Rattle.error.specs.InOrder.{Row, inOrder}
 use Rattle.clock.specs.declared.Timer.{Timer}
 use Rattle.clock.specs.Timer.{wellFormed}
-use Rattle.ledger.specs.Operate.{unrecorded}
+use Rattle.books.specs.Enter.{unrecorded}
 use Rattle.machine.specs.declared.Core.{Core}
 use Rattle.machine.specs.declared.Reason.{Reason}
 use Rattle.machine.specs.declared.Reason.the-variants as Why

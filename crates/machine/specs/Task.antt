@@ -4,10 +4,10 @@ use mathlib.Core.Bool.{true, false, not, _&&_}
 use lib.Dec.{leb, eqb}
 use Rattle.counter.specs.Entries.{goodPeriod}
 use Rattle.clock.specs.declared.Gaps.{Gaps}
-use Rattle.ledger.specs.declared.Books.{Books}
-use Rattle.ledger.specs.declared.Operation.{Operation}
-use Rattle.ledger.specs.declared.Operation.the-variants as O
-use Rattle.ledger.specs.Operate.{past, busy}
+use Rattle.books.specs.declared.Books.{Books}
+use Rattle.books.specs.declared.Operation.{Operation}
+use Rattle.books.specs.declared.Operation.the-variants as O
+use Rattle.books.specs.Enter.{past, busy}
 use Rattle.trace.specs.declared.Record.{Record}
 use Rattle.trace.specs.declared.Record.the-variants as K
 use Rattle.trace.specs.declared.Setup.{Setup}

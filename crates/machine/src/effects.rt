@@ -13,6 +13,8 @@ use crate::Reason;
 use crate::Values;
 use crate::tasks::Task;
 use crate::tasks::Then;
+use books::Books;
+use books::Entered;
 use clock::Announced;
 use clock::Gaps;
 use clock::SampleTaken;
@@ -139,7 +141,7 @@ fn setup_effect(core: Core, setup: Setup) -> Begun
     let SetUp::Accepted(timer) = set_up else {
         return turned_away(core, Reason::BadRecord);
     };
-    let books = ledger::nothing_booked();
+    let books = books::nothing_booked();
     Begun {
         next: Next::Fresh,
         core: Core {

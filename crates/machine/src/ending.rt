@@ -1,15 +1,15 @@
 // The second part of a step: with the one thread record concerned.
 ghost use mathlib.Core.Path.{_≡_};
-ghost use Rattle.ledger.specs.Operate.{entryOf};
+ghost use Rattle.books.specs.Enter.{entryOf};
 ghost use Rattle.machine.specs.Step.{withBooks, left, enteredStep, reportStep, freshStep};
 use crate::Core;
 use crate::CoreStep;
 use crate::Outcome;
 use crate::Reason;
 use crate::Values;
-use ledger::Books;
-use ledger::Entered;
-use ledger::Operation;
+use books::Books;
+use books::Entered;
+use books::Operation;
 use units::Cycles;
 use usage::ThreadUsage;
 
@@ -61,7 +61,7 @@ pub(crate) fn enter(
     ensures { λ r. ⌜ r ≡ enteredStep core usage (entryOf (core .books) usage reading operation) ⌝ }
 {
     let books = core.books;
-    let entered = ledger::enter(books, usage, reading, operation);
+    let entered = books::enter(books, usage, reading, operation);
     entered_step(core, usage, entered)
 }
 

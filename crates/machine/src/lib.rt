@@ -7,6 +7,8 @@ ghost use Rattle.machine.specs.Table.{refusalOf, malformed};
 ghost use Rattle.trace.specs.Decode.{decodeOf};
 ghost use Rattle.machine.specs.Step.{taskBegun, decodedBegun, beginOf, nextThread, placeOf, finishOf, coreOf, machineOf, steppedFrom, stepOf, freshMachine};
 ghost use Rattle.machine.specs.Says.{outcomeSays};
+use books::Books;
+use books::Operation;
 use clock::Clock;
 use clock::Timer;
 use counter::Counter;
@@ -17,9 +19,7 @@ use ending::enter;
 use ending::left;
 use ending::report;
 use error::Refusal;
-use ledger::Books;
 use ledger::Ledger;
-use ledger::Operation;
 use table::Verdict;
 use table::malformed;
 use table::tested;
@@ -200,7 +200,7 @@ fn next_thread(books: Books, next: Next) -> u32
 {
     match next {
         Next::Done(_) => 0,
-        Next::Enter(operation, _) => ledger::concerned(books, operation),
+        Next::Enter(operation, _) => books::concerned(books, operation),
         Next::Report(thread) => thread,
         Next::Fresh => 0,
     }

@@ -20,7 +20,7 @@ pub(crate) fn malformed(core: Core, slots: usize) -> bool
     let timer = core.timer;
     let books = core.books;
     let formed = clock::well_formed(timer);
-    let lost = ledger::unrecorded(books, slots);
+    let lost = books::unrecorded(books, slots);
     core.ready & (!formed | lost)
 }
 

@@ -3,9 +3,9 @@ ghost use mathlib.Core.Path.{_≡_};
 ghost use Prim.Native.Nat.{_+_};
 ghost use Rattle.machine.specs.declared.tasks.Task.the-variants as T;
 ghost use Rattle.machine.specs.Task.{taskOf, asksNothing, asksCycles, asksSample, asksOperation, asksReport, asksSetup, askedBy};
+use books::Books;
+use books::Operation;
 use clock::Gaps;
-use ledger::Books;
-use ledger::Operation;
 use trace::Record;
 use trace::Setup;
 
@@ -102,8 +102,8 @@ fn asks_sample(gaps: Gaps) -> Asked
 fn asks_operation(books: Books, slots: usize, operation: Operation, gaps: Gaps) -> Asked
     ensures { λ r. ⌜ r ≡ asksOperation books slots operation gaps ⌝ }
 {
-    let past = ledger::past(operation, slots);
-    let busy = ledger::busy(books, operation);
+    let past = books::past(operation, slots);
+    let busy = books::busy(books, operation);
     let mut asked = asks_sample(gaps);
     asked.past = past;
     asked.busy = busy;

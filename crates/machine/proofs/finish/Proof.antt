@@ -11,7 +11,7 @@ returns c = let a = c .before .before .before .before .before .args in c .left .
 
 returns-2 : tie.Need-returns-2
 unfolding finishNext
-returns-2 c = let a = c .before .before .before .before .before .args in c .enter .ensures ∙ sym (ap (finishNext (a .begun .core) (a .usage)) (c .before .before .next2 .given .1))
+returns-2 c = let a = c .before .before .before .before .before .args in rw (c .enter .ensures) (sym (ap (finishNext (a .begun .core) (a .usage)) (c .before .before .next2 .given .1)))
 
 returns-3 : tie.Need-returns-3
 unfolding finishNext

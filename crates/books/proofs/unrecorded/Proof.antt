@@ -1,0 +1,12 @@
+-- `unrecorded` tells of a running thread without a record.
+use Rattle.books.specs.Enter.{unrecorded}
+use borrow.Author.Needs.{needs}
+use Rattle.books.proofs.unrecorded.Statement.{statement}
+use Rattle.books.proofs.unrecorded.Tie as tie
+
+returns : tie.Need-returns
+unfolding unrecorded
+returns c = search needs
+
+pub unrecorded-spec : {M : Type 1} → statement M
+unrecorded-spec = tie.close (tie.spec (λ c. search needs) returns)

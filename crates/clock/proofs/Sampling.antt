@@ -13,13 +13,13 @@ use Rattle.systick.specs.declared.ElapsedDecide.{ElapsedDecide}
 use Rattle.systick.specs.declared.ElapsedDecide.the-variants as D
 use Rattle.systick.proofs.Outcomes.{decided}
 use Rattle.counter.specs.declared.Counter.{Counter}
-use Rattle.counter.specs.declared.Ran.{Ran}
-use Rattle.counter.specs.declared.Ran.the-variants as R
-use Rattle.counter.specs.Cycle.{runN, cleared}
-use Rattle.counter.specs.Entries.{ranOf}
+use Rattle.counter.specs.declared.SampleReadings.{SampleReadings}
+use Rattle.counter.specs.declared.SampleRead.{SampleRead}
+use Rattle.counter.specs.declared.SampleRead.the-variants as R
+use Rattle.counter.specs.Cycle.{cleared}
+use Rattle.counter.specs.Entries.{readingsFrom, readingsOf}
 use Rattle.counter.specs.Valid.{Valid}
-use Rattle.counter.proofs.Cycles.{valid-cleared}
-use Rattle.counter.proofs.Outcomes.{ran-on, in-range-of}
+use Rattle.counter.proofs.Outcomes.{read-on, in-range-of}
 use Rattle.clock.specs.declared.Timer.{Timer}
 use Rattle.clock.specs.declared.Gaps.{Gaps}
 use Rattle.clock.specs.declared.SampleTaken.{SampleTaken}
@@ -29,11 +29,11 @@ use Rattle.clock.proofs.Stretches.{Stretches, stretches}
 use Rattle.clock.proofs.Owed.{Owes, short}
 
 -- an answer that is accepted is not refused, and holds what it was accepted with
-pub never : {answer : Ran} {counter : Counter} {why : Refusal} → answer ≡ R.Accepted counter → answer ≡ R.Refused why → ⊥
-never p q = clash (cc)
+pub never-unread : {answer : SampleRead} {read : SampleReadings} {why : Refusal} → answer ≡ R.Accepted read → answer ≡ R.Refused why → ⊥
+never-unread p q = clash (cc)
 
-pub ran-is : {answer : Ran} {one other : Counter} → answer ≡ R.Accepted one → answer ≡ R.Accepted other → one ≡ other
-ran-is p q = cc
+pub read-is : {answer : SampleRead} {one other : SampleReadings} → answer ≡ R.Accepted one → answer ≡ R.Accepted other → one ≡ other
+read-is p q = cc
 
 pub never-undecided : {answer : ElapsedDecide} {d : ElapsedDecideResult} {why : Refusal} → answer ≡ D.Accepted d → answer ≡ D.Refused why → ⊥
 never-undecided p q = clash (cc)
@@ -63,20 +63,9 @@ module _ (t : Timer) (g : Gaps) (ready : Ready t g) where
   parts : Stretches (a .period) a g
   parts = stretches (a .period) a g (ready .valid)
 
-  pub to-b : ranOf a (g .p) ≡ R.Accepted (atB a g)
-  to-b = ran-on a (g .p) (in-range-of a (ready .valid)) (let fits = ready .fits in omega arith)
-
-  pub to-c : ranOf (cleared (atB a g)) (g .q) ≡ R.Accepted (atC a g)
-  to-c =
-      let s = parts in
-      let fits = ready .fits in
-      ran-on (cleared (atB a g)) (g .q) (in-range-of (cleared (atB a g)) (valid-cleared (s .b .valid))) (omega arith)
-
-  pub to-d : ranOf (atC a g) (g .r) ≡ R.Accepted (runN (g .r) (atC a g))
-  to-d =
-      let s = parts in
-      let fits = ready .fits in
-      ran-on (atC a g) (g .r) (in-range-of (atC a g) (s .c .valid)) (omega arith)
+  -- the counter gives the readings: it is in range, and T stays within its limit to the end
+  pub reads : readingsOf a (g .p) (g .q) (g .r) ≡ R.Accepted (readingsFrom a (g .p) (g .q) (g .r))
+  reads = read-on a (g .p) (g .q) (g .r) (in-range-of a (ready .valid)) (ready .fits)
 
   -- the leaf decides: v at C is within the period, and there is room for a wrap
   pub decides : elapsedDecide (a .value) (atC a g .value) (atB a g .flag) (a .period) (t .clock .overflow) ≡ D.Accepted (decision t g)
@@ -95,51 +84,30 @@ module _ (t : Timer) (g : Gaps) (ready : Ready t g) where
       omega arith
 
   -- what the code's steps come to, one after the other, and that none of them is refused
-  pub b-is : {x : Ran} {b : Counter} → x ≡ ranOf a (g .p) → x ≡ R.Accepted b → b ≡ atB a g
-  b-is p q = ran-is q (p ∙ to-b)
+  pub readings-are : {x : SampleRead} {read : SampleReadings} → x ≡ readingsOf a (g .p) (g .q) (g .r) → x ≡ R.Accepted read → read ≡ readingsFrom a (g .p) (g .q) (g .r)
+  readings-are p q = read-is q (p ∙ reads)
 
-  pub no-b : {x : Ran} {why : Refusal} → x ≡ ranOf a (g .p) → x ≡ R.Refused why → ⊥
-  no-b p q = never (p ∙ to-b) q
+  pub no-readings : {x : SampleRead} {why : Refusal} → x ≡ readingsOf a (g .p) (g .q) (g .r) → x ≡ R.Refused why → ⊥
+  no-readings p q = never-unread (p ∙ reads) q
 
-  module _ {b z : Counter} (eb : b ≡ atB a g) (ez : z ≡ cleared b) where
-    from-b : ranOf z (g .q) ≡ R.Accepted (atC a g)
-    from-b = rw (ez, eb) to-c
+  module _ {read : SampleReadings} (er : read ≡ readingsFrom a (g .p) (g .q) (g .r)) where
+    from-read : elapsedDecide (a .value) (read .value) (read .flag) (a .period) (t .clock .overflow) ≡ D.Accepted (decision t g)
+    from-read = rw er decides
 
-    pub c-is : {x : Ran} {c : Counter} → x ≡ ranOf z (g .q) → x ≡ R.Accepted c → c ≡ atC a g
-    c-is p q = ran-is q (p ∙ from-b)
+    pub decision-is : {x : ElapsedDecide} {d : ElapsedDecideResult} → x ≡ elapsedDecide (a .value) (read .value) (read .flag) (a .period) (t .clock .overflow) → x ≡ D.Accepted d → d ≡ decision t g
+    decision-is p q = decided-is q (p ∙ from-read)
 
-    pub no-c : {x : Ran} {why : Refusal} → x ≡ ranOf z (g .q) → x ≡ R.Refused why → ⊥
-    no-c p q = never (p ∙ from-b) q
+    pub no-decision : {x : ElapsedDecide} {why : Refusal} → x ≡ elapsedDecide (a .value) (read .value) (read .flag) (a .period) (t .clock .overflow) → x ≡ D.Refused why → ⊥
+    no-decision p q = never-undecided (p ∙ from-read) q
 
-  module _ {b c : Counter} (eb : b ≡ atB a g) (ec : c ≡ atC a g) where
-    from-c : elapsedDecide (a .value) (c .value) (b .flag) (a .period) (t .clock .overflow) ≡ D.Accepted (decision t g)
-    from-c = rw (ec, eb) decides
-
-    pub decision-is : {x : ElapsedDecide} {d : ElapsedDecideResult} → x ≡ elapsedDecide (a .value) (c .value) (b .flag) (a .period) (t .clock .overflow) → x ≡ D.Accepted d → d ≡ decision t g
-    decision-is p q = decided-is q (p ∙ from-c)
-
-    pub no-decision : {x : ElapsedDecide} {why : Refusal} → x ≡ elapsedDecide (a .value) (c .value) (b .flag) (a .period) (t .clock .overflow) → x ≡ D.Refused why → ⊥
-    no-decision p q = never-undecided (p ∙ from-c) q
-
-  module _ {c : Counter} (ec : c ≡ atC a g) where
-    on-from-c : ranOf c (g .r) ≡ R.Accepted (runN (g .r) (atC a g))
-    on-from-c = rw ec to-d
-
-    pub d-is : {x : Ran} {e : Counter} → x ≡ ranOf c (g .r) → x ≡ R.Accepted e → e ≡ runN (g .r) (atC a g)
-    d-is p q = ran-is q (p ∙ on-from-c)
-
-    pub no-d : {x : Ran} {why : Refusal} → x ≡ ranOf c (g .r) → x ≡ R.Refused why → ⊥
-    no-d p q = never (p ∙ on-from-c) q
+    pub taken-is :
+        {d : ElapsedDecideResult} {f : Counter} {s : SampleTaken} →
+        d ≡ decision t g →
+        f ≡ cond (d .«wrap_detected») (cleared (read .after)) (read .after) →
+        s ≡ takenFrom (t .clock) d (t .clock .count .0 + d .elapsed) f →
+        s ≡ sampleValue t g
+    taken-is ed ef es = rw (es, ef, er, ed)
 
   -- the sum of the code's last step
   pub sum-fits : {d : ElapsedDecideResult} → d ≡ decision t g → t .clock .count .0 + d .elapsed ≤ max64
   sum-fits ed = rw ed reading-fits
-
-  pub taken-is :
-      {d : ElapsedDecideResult} {e f : Counter} {s : SampleTaken} →
-      d ≡ decision t g →
-      e ≡ runN (g .r) (atC a g) →
-      f ≡ cond (d .«wrap_detected») (cleared e) e →
-      s ≡ takenFrom (t .clock) d (t .clock .count .0 + d .elapsed) f →
-      s ≡ sampleValue t g
-  taken-is ed ee ef es = rw (es, ef, ee, ed)

@@ -10,6 +10,7 @@ ghost use Rattle.clock.specs.Announce.{announceOf, announcementFrom};
 ghost use Rattle.clock.specs.Says.{setUpSays, setUpWhy, sampledSays, sampledWhy, announcedSays, announcedWhy};
 use counter::Counter;
 use counter::Ran;
+use counter::SampleRead;
 use error::Refusal;
 use systick::AnnounceDecide;
 use systick::AnnounceDecideResult;
@@ -169,24 +170,16 @@ fn taken(timer: Timer, gaps: Gaps) -> Sampled
 {
     let a = timer.counter;
     let clock = timer.clock;
-    let to_b = counter::run(a, gaps.p);
-    let Ran::Accepted(b) = to_b else {
-        return Sampled::Refused(to_b.refusal());
+    let answer = counter::readings(a, gaps.p, gaps.q, gaps.r);
+    let SampleRead::Accepted(read) = answer else {
+        return Sampled::Refused(answer.refusal());
     };
-    let to_c = counter::run(b.cleared(), gaps.q);
-    let Ran::Accepted(c) = to_c else {
-        return Sampled::Refused(to_c.refusal());
-    };
-    let decided = systick::elapsed_decide(a.value, c.value, b.flag, a.period, clock.overflow);
+    let decided = systick::elapsed_decide(a.value, read.value, read.flag, a.period, clock.overflow);
     let ElapsedDecide::Accepted(d) = decided else {
         return Sampled::Refused(decided.refusal());
     };
-    let to_d = counter::run(c, gaps.r);
-    let Ran::Accepted(e) = to_d else {
-        return Sampled::Refused(to_d.refusal());
-    };
     let reading = clock.count.0 + d.elapsed as u64;
-    Sampled::Accepted(sample_taken(clock, d, reading, settled(d.wrap_detected, e)))
+    Sampled::Accepted(sample_taken(clock, d, reading, settled(d.wrap_detected, read.after)))
 }
 
 pub fn sample(timer: Timer, gaps: Gaps) -> Sampled

@@ -3,8 +3,8 @@ ghost use mathlib.Core.Path.{_≡_};
 ghost use Prim.Native.Nat.{_+_, _≤_};
 ghost use Rattle.error.specs.Numbers.{max64};
 ghost use Rattle.counter.specs.Cycle.{runN, cleared};
-ghost use Rattle.counter.specs.Entries.{goodPeriod, inRange, startedOf, ranOf, valueOf};
-ghost use Rattle.counter.specs.Says.{ranSays, ranWhy, valueSays};
+ghost use Rattle.counter.specs.Entries.{goodPeriod, inRange, startedOf, ranOf, readingsOf, valueOf};
+ghost use Rattle.counter.specs.Says.{ranSays, ranWhy, sampleReadWhy, valueSays};
 ghost use Rattle.counter.specs.Valid.{Valid};
 use error::Refusal;
 use units::Cycles;
@@ -138,6 +138,52 @@ impl Ran {
         match self {
             Ran::Accepted(_) => Refusal::Invalid,
             Ran::Refused(why) => why,
+        }
+    }
+}
+
+// What a sample reads: the flag at B, the value at C, and the counter r cycles after C, before D.
+pub struct SampleReadings {
+    pub flag: bool,
+    pub value: u32,
+    pub after: Counter,
+}
+
+pub enum SampleRead {
+    Accepted(SampleReadings),
+    Refused(Refusal),
+}
+
+// A sample's readings: p cycles to B, whose reading clears the flag, q to C, and r more. All are tested first, so that nothing is refused once the flag is gone.
+pub fn readings(counter: Counter, p: u32, q: u32, r: u32) -> SampleRead
+    ensures { λ answer. ⌜ answer ≡ readingsOf counter p q r ⌝ }
+{
+    if counter.in_range() {
+        let cycles = p as u64 + q as u64 + r as u64;
+        let latest = u64::MAX - cycles;
+        if latest < counter.cycles.0 {
+            return SampleRead::Refused(Refusal::Overflow);
+        }
+        let b = advanced(counter, p);
+        let read = b.cleared();
+        let c = advanced(read, q);
+        return SampleRead::Accepted(SampleReadings {
+            flag: b.flag,
+            value: c.value,
+            after: advanced(c, r),
+        });
+    }
+    SampleRead::Refused(Refusal::Invalid)
+}
+
+impl SampleRead {
+    // For whoever has found it refused.
+    pub fn refusal(self) -> Refusal
+        ensures { λ r. ⌜ r ≡ sampleReadWhy self ⌝ }
+    {
+        match self {
+            SampleRead::Accepted(_) => Refusal::Invalid,
+            SampleRead::Refused(why) => why,
         }
     }
 }

@@ -54,6 +54,8 @@ use Rattle.counter.proofs.run.Reads as counter-run
 use Rattle.counter.proofs.Ran.number.Reads as counter-Ran-number
 use Rattle.counter.proofs.Ran.counter.Reads as counter-Ran-counter
 use Rattle.counter.proofs.Ran.refusal.Reads as counter-Ran-refusal
+use Rattle.counter.proofs.readings.Reads as counter-readings
+use Rattle.counter.proofs.SampleRead.refusal.Reads as counter-SampleRead-refusal
 use Rattle.counter.proofs.value_of.Reads as counter-value-of
 use Rattle.counter.proofs.ValueRead.number.Reads as counter-ValueRead-number
 use Rattle.counter.proofs.ValueRead.value.Reads as counter-ValueRead-value
@@ -291,10 +293,14 @@ pub counter-outcomes :
     OneOutcome counter-Ran-number.Post ×
     OneOutcome counter-Ran-counter.Post ×
     OneOutcome counter-Ran-refusal.Post ×
+    OneOutcome counter-readings.Post ×
+    OneOutcome counter-SampleRead-refusal.Post ×
     OneOutcome counter-value-of.Post ×
     OneOutcome counter-ValueRead-number.Post ×
     OneOutcome counter-ValueRead-value.Post
 counter-outcomes = (
+  once _,
+  once _,
   once _,
   once _,
   once _,

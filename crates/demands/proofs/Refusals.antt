@@ -9,8 +9,9 @@ use Rattle.error.proofs.Ordered.{accepts, refuses, accepted-only, refused-only,
 use Rattle.systick.specs.Leaves.{announceDecide, announceTests, announceValue}
 use Rattle.systick.specs.declared.AnnounceDecide.the-variants as D
 use Rattle.counter.specs.declared.Ran.the-variants as R
+use Rattle.counter.specs.declared.SampleRead.the-variants as Sample
 use Rattle.counter.specs.declared.ValueRead.the-variants as Read
-use Rattle.counter.specs.Entries.{startedOf, ranOf, valueOf}
+use Rattle.counter.specs.Entries.{startedOf, ranOf, readingsOf, valueOf}
 use Rattle.clock.specs.declared.Timer.{Timer}
 use Rattle.clock.specs.declared.SetUp.the-variants as U
 use Rattle.clock.specs.declared.Sampled.the-variants as S
@@ -38,10 +39,11 @@ announce-rows t =
     (announceTests (t .clock .count) (t .clock .announced) (t .clock .overflow) (t .clock .tick)))
 
 pub entry-refusals : EntryRefusals
-unfolding startedOf ranOf valueOf setUp sampleOf reportOf
+unfolding startedOf ranOf readingsOf valueOf setUp sampleOf reportOf
 entry-refusals = record {
   started = λ period. by-rows _ R.Refused _ (λ why e. clash (cc)) (λ r s e. cc);
   run = λ c n. by-rows _ R.Refused _ (λ why e. clash (cc)) (λ r s e. cc);
+  readings = λ a p q r. by-rows _ Sample.Refused _ (λ why e. clash (cc)) (λ r s e. cc);
   value = λ raw period. by-rows _ Read.Refused _ (λ why e. clash (cc)) (λ r s e. cc);
   set-up = λ period tick. by-rows _ U.Refused _ (λ why e. clash (cc)) (λ r s e. cc);
   sample = λ t g. by-rows _ S.Refused _ (λ why e. clash (cc)) (λ r s e. cc);

@@ -9,6 +9,9 @@ use Rattle.error.specs.declared.Refusal.{Refusal}
 use Rattle.error.specs.Numbers.{max32, max64}
 use Rattle.error.specs.InOrder.{NoneHolds}
 use Rattle.error.proofs.Ordered.{accepts, refuses, accepted-only, refused-only}
+use Rattle.counter.specs.declared.Counter.{Counter}
+use Rattle.counter.specs.declared.Ran.{Ran}
+use Rattle.counter.specs.declared.Ran.the-variants as R
 use Rattle.counter.specs.Entries.{goodPeriod}
 use Rattle.counter.proofs.Outcomes.{ran-on, in-range-of}
 use Rattle.clock.specs.declared.Gaps.{Gaps}
@@ -35,6 +38,12 @@ use Rattle.machine.specs.Step.{turned, effectOf, taskBegun}
 use Rattle.machine.specs.Accepts.{Samples, SetsUp, Accepts}
 
 -- an answer that is accepted is not refused, and holds what it was accepted with
+pub never-ran : {answer : Ran} {counter : Counter} {why : Refusal} → answer ≡ R.Accepted counter → answer ≡ R.Refused why → ⊥
+never-ran p q = clash (cc)
+
+pub ran-is : {answer : Ran} {one other : Counter} → answer ≡ R.Accepted one → answer ≡ R.Accepted other → one ≡ other
+ran-is p q = cc
+
 pub never-sampled : {answer : Sampled} {taken : SampleTaken} {why : Refusal} → answer ≡ S.Accepted taken → answer ≡ S.Refused why → ⊥
 never-sampled p q = clash (cc)
 

@@ -37,12 +37,12 @@ use Rattle.trace.specs.declared.Decoded.{Decoded}
 use Rattle.trace.specs.declared.Decoded.the-variants as D
 use Rattle.trace.proofs.Bytes.{decodes}
 use Rattle.machine.specs.declared.Machine.{Machine}
-use Rattle.machine.specs.declared.Reason.{Reason}
-use Rattle.machine.specs.declared.Reason.the-variants as Why
-use Rattle.machine.specs.declared.Outcome.the-variants as Told
-use Rattle.machine.specs.Task.{taskOf, askedBy}
-use Rattle.machine.specs.Table.{malformed, crowded, table, refusalOf}
-use Rattle.machine.specs.Says.{outcomeSays}
+use Rattle.table.specs.declared.Reason.{Reason}
+use Rattle.table.specs.declared.Reason.the-variants as Why
+use Rattle.table.specs.declared.Outcome.the-variants as Told
+use Rattle.table.specs.Task.{taskOf, askedBy}
+use Rattle.table.specs.Table.{malformed, crowded, table, refusalOf}
+use Rattle.table.specs.Says.{outcomeSays}
 use Rattle.machine.specs.Step.{coreOf, stepOf}
 use Rattle.machine.specs.Laws.{Operates, fullRow, announceRows, lastRows, recordRows, everyRow, Exactly}
 use Rattle.machine.proofs.Keeping.{every-refusal, passed}

@@ -12,8 +12,8 @@ use Rattle.clock.proofs.Runs as clock-runs
 use Rattle.ledger.proofs.Agreeing as ledger-runs
 use Rattle.trace.specs.declared.Record.the-variants as K
 use Rattle.trace.specs.declared.Decoded.the-variants as D
-use Rattle.machine.specs.declared.Values.{Values}
-use Rattle.machine.specs.declared.Outcome.the-variants as Told
+use Rattle.table.specs.declared.Values.{Values}
+use Rattle.table.specs.declared.Outcome.the-variants as Told
 use Rattle.machine.specs.Step.{stepOf}
 use Rattle.machine.specs.Answers as answers
 use Rattle.machine.specs.Answers.{answerTo, leftBy}

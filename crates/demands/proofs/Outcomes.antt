@@ -140,10 +140,14 @@ use Rattle.tickclock.proofs.timer.systick_announce_decide_new_cycle_count.Reads
 use Rattle.tickclock.proofs.timer.systick_announce_decide_new_announced_cycles.Reads as systick-announce-decide-new-announced-cycles
 use Rattle.tickclock.proofs.timer.counter_value_number.Reads as counter-value-number
 use Rattle.tickclock.proofs.timer.counter_value_value.Reads as counter-value-value
-use Rattle.machine.proofs.Reason.refusal.Reads as machine-Reason-refusal
-use Rattle.machine.proofs.Outcome.number.Reads as machine-Outcome-number
-use Rattle.machine.proofs.Outcome.x.Reads as machine-Outcome-x
-use Rattle.machine.proofs.Outcome.y.Reads as machine-Outcome-y
+use Rattle.table.proofs.Reason.refusal.Reads as table-Reason-refusal
+use Rattle.table.proofs.Outcome.number.Reads as table-Outcome-number
+use Rattle.table.proofs.Outcome.x.Reads as table-Outcome-x
+use Rattle.table.proofs.Outcome.y.Reads as table-Outcome-y
+use Rattle.table.proofs.malformed.Reads as table-malformed
+use Rattle.table.proofs.tested.Reads as table-tested
+use Rattle.table.proofs.tasks.task_of.Reads as table-task-of
+use Rattle.table.proofs.tasks.asked_by.Reads as table-asked-by
 use Rattle.machine.proofs.begin.Reads as machine-begin
 use Rattle.machine.proofs.begin_at.Reads as machine-begin-at
 use Rattle.machine.proofs.place.Reads as machine-place
@@ -391,11 +395,27 @@ ledger-outcomes = (
 pub trace-outcomes : OneOutcome trace-decode.Post × OneOutcome trace-Decoded-number.Post
 trace-outcomes = (once _, once _)
 
+pub table-outcomes :
+    OneOutcome table-Reason-refusal.Post ×
+    OneOutcome table-Outcome-number.Post ×
+    OneOutcome table-Outcome-x.Post ×
+    OneOutcome table-Outcome-y.Post ×
+    OneOutcome table-malformed.Post ×
+    OneOutcome table-tested.Post ×
+    OneOutcome table-task-of.Post ×
+    OneOutcome table-asked-by.Post
+table-outcomes = (
+  once _,
+  once _,
+  once _,
+  once _,
+  once _,
+  once _,
+  once _,
+  once _,
+)
+
 pub machine-outcomes :
-    OneOutcome machine-Reason-refusal.Post ×
-    OneOutcome machine-Outcome-number.Post ×
-    OneOutcome machine-Outcome-x.Post ×
-    OneOutcome machine-Outcome-y.Post ×
     OneOutcome machine-begin.Post ×
     OneOutcome machine-begin-at.Post ×
     OneOutcome machine-place.Post ×
@@ -404,10 +424,6 @@ pub machine-outcomes :
     OneOutcome machine-step.Post ×
     OneOutcome machine-fresh.Post
 machine-outcomes = (
-  once _,
-  once _,
-  once _,
-  once _,
   once _,
   once _,
   once _,

@@ -14,8 +14,8 @@ use Rattle.books.specs.Enter.{unrecorded, past, busy, entryOf, concerned}
 use Rattle.ledger.specs.Operate.{storedIn, operateOf}
 use Rattle.ledger.specs.Sums.{sumOf}
 use Rattle.ledger.specs.Run as ledger
-use Rattle.machine.specs.Task.{taskOf, askedBy}
-use Rattle.machine.specs.Table.{malformed, crowded}
+use Rattle.table.specs.Task.{taskOf, askedBy}
+use Rattle.table.specs.Table.{malformed, crowded}
 use Rattle.machine.specs.Step.{announcedBegun, effectOf, taskBegun, decodedBegun, beginOf, nextThread, placeOf, enteredStep, finishNext, stepOf}
 use Rattle.demands.specs.Trace.{afterTouch, happened, seen, watchAll, FairTrace}
 use Rattle.demands.specs.Shown.{Shown}

@@ -25,11 +25,11 @@ use Rattle.ledger.specs.Run as ledger
 use Rattle.trace.specs.declared.Record.the-variants as K
 use Rattle.trace.specs.declared.Decoded.the-variants as D
 use Rattle.machine.specs.declared.Machine.{Machine}
-use Rattle.machine.specs.declared.Values.{Values}
-use Rattle.machine.specs.declared.Outcome.the-variants as Told
-use Rattle.machine.specs.declared.Reason.the-variants as Why
-use Rattle.machine.specs.Task.{taskOf, askedBy}
-use Rattle.machine.specs.Table.{malformed, crowded}
+use Rattle.table.specs.declared.Values.{Values}
+use Rattle.table.specs.declared.Outcome.the-variants as Told
+use Rattle.table.specs.declared.Reason.the-variants as Why
+use Rattle.table.specs.Task.{taskOf, askedBy}
+use Rattle.table.specs.Table.{malformed, crowded}
 use Rattle.machine.specs.Step.{announcedBegun, effectOf, taskBegun, decodedBegun, beginOf, nextThread, placeOf, enteredStep, finishNext, freshMachine, stepOf}
 use Rattle.machine.specs.Laws.{recordRows, lastRows}
 use Rattle.machine.specs.Answers.{values, answerTo, leftBy}

@@ -17,11 +17,11 @@ use Rattle.trace.specs.declared.Decoded.the-variants as D
 use Rattle.trace.specs.Bytes.{Decodes}
 use Rattle.machine.specs.declared.Machine.{Machine}
 use Rattle.machine.specs.declared.Stepped.{Stepped}
-use Rattle.machine.specs.declared.Reason.{Reason}
-use Rattle.machine.specs.declared.Reason.the-variants as Why
-use Rattle.machine.specs.declared.Values.{Values}
-use Rattle.machine.specs.declared.Outcome.the-variants as Told
-use Rattle.machine.specs.Says.{outcomeSays}
+use Rattle.table.specs.declared.Reason.{Reason}
+use Rattle.table.specs.declared.Reason.the-variants as Why
+use Rattle.table.specs.declared.Values.{Values}
+use Rattle.table.specs.declared.Outcome.the-variants as Told
+use Rattle.table.specs.Says.{outcomeSays}
 use Rattle.machine.specs.Laws.{Exactly, Kept}
 use Rattle.machine.specs.Answers.{values}
 use Rattle.demands.specs.Rows.{malformedRow, rowsOf}

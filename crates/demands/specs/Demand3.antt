@@ -11,8 +11,8 @@ use Rattle.trace.specs.declared.Decoded.{Decoded}
 use Rattle.trace.specs.declared.Decoded.the-variants as D
 use Rattle.machine.specs.declared.Machine.{Machine}
 use Rattle.machine.specs.declared.Stepped.{Stepped}
-use Rattle.machine.specs.declared.Values.{Values}
-use Rattle.machine.specs.declared.Outcome.the-variants as Told
+use Rattle.table.specs.declared.Values.{Values}
+use Rattle.table.specs.declared.Outcome.the-variants as Told
 use Rattle.demands.specs.Trace.{Watched, FairSample, timeC, watchAll, setUp, FairTrace}
 
 -- announced cycles, against the last reading before them

@@ -13,8 +13,8 @@ use Rattle.trace.specs.declared.Record.the-variants as K
 use Rattle.trace.specs.declared.Decoded.{Decoded}
 use Rattle.trace.specs.declared.Decoded.the-variants as D
 use Rattle.machine.specs.declared.Machine.{Machine}
-use Rattle.machine.specs.declared.Reason.{Reason}
-use Rattle.machine.specs.declared.Reason.the-variants as Why
+use Rattle.table.specs.declared.Reason.{Reason}
+use Rattle.table.specs.declared.Reason.the-variants as Why
 use Rattle.machine.specs.Laws.{announceRows, fullRow}
 
 -- L is 2 to 16777215

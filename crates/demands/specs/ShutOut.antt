@@ -15,11 +15,11 @@ use Rattle.trace.specs.declared.Decoded.{Decoded}
 use Rattle.trace.specs.declared.Decoded.the-variants as D
 use Rattle.machine.specs.declared.Machine.{Machine}
 use Rattle.machine.specs.declared.Stepped.{Stepped}
-use Rattle.machine.specs.declared.Reason.the-variants as Why
-use Rattle.machine.specs.declared.Values.{Values}
-use Rattle.machine.specs.declared.Outcome.{Outcome}
-use Rattle.machine.specs.declared.Outcome.the-variants as Told
-use Rattle.machine.specs.Table.{crowded}
+use Rattle.table.specs.declared.Reason.the-variants as Why
+use Rattle.table.specs.declared.Values.{Values}
+use Rattle.table.specs.declared.Outcome.{Outcome}
+use Rattle.table.specs.declared.Outcome.the-variants as Told
+use Rattle.table.specs.Table.{crowded}
 use Rattle.machine.specs.Step.{stepOf}
 use Rattle.machine.specs.Answers.{values}
 use Rattle.demands.specs.Trace.{afterTouch}

@@ -15,10 +15,10 @@ use Rattle.trace.specs.declared.Decoded.{Decoded}
 use Rattle.trace.specs.declared.Decoded.the-variants as D
 use Rattle.machine.specs.declared.Machine.{Machine}
 use Rattle.machine.specs.declared.Stepped.{Stepped}
-use Rattle.machine.specs.declared.Reason.{Reason}
-use Rattle.machine.specs.declared.Reason.the-variants as Why
-use Rattle.machine.specs.declared.Outcome.{Outcome}
-use Rattle.machine.specs.declared.Outcome.the-variants as Told
+use Rattle.table.specs.declared.Reason.{Reason}
+use Rattle.table.specs.declared.Reason.the-variants as Why
+use Rattle.table.specs.declared.Outcome.{Outcome}
+use Rattle.table.specs.declared.Outcome.the-variants as Told
 use Rattle.machine.specs.Step.{freshMachine}
 
 -- what a record lets happen: cycles run, so many ticks announced, a sample, or a sample with an operation that answered so

@@ -24,16 +24,16 @@ use Rattle.clock.specs.declared.SetUp.the-variants as U
 use Rattle.clock.specs.Timer.{wellFormed}
 use Rattle.clock.proofs.Outcomes.{formed-valid, sampled, set-up}
 use Rattle.books.specs.Enter.{unrecorded}
-use Rattle.machine.specs.declared.Core.{Core}
-use Rattle.machine.specs.declared.tasks.Asked.{Asked}
-use Rattle.machine.specs.declared.tasks.Task.{Task}
-use Rattle.machine.specs.declared.tasks.Task.the-variants as T
-use Rattle.machine.specs.declared.tasks.Then.the-variants as W
-use Rattle.machine.specs.Task.{askedBy, sumOf}
-use Rattle.machine.specs.declared.Reason.{Reason}
-use Rattle.machine.specs.declared.table.Verdict.{Verdict}
-use Rattle.machine.specs.declared.table.Verdict.the-variants as D
-use Rattle.machine.specs.Table.{malformed, crowded, table, testedOf}
+use Rattle.table.specs.declared.Core.{Core}
+use Rattle.table.specs.declared.tasks.Asked.{Asked}
+use Rattle.table.specs.declared.tasks.Task.{Task}
+use Rattle.table.specs.declared.tasks.Task.the-variants as T
+use Rattle.table.specs.declared.tasks.Then.the-variants as W
+use Rattle.table.specs.Task.{askedBy, sumOf}
+use Rattle.table.specs.declared.Reason.{Reason}
+use Rattle.table.specs.declared.Verdict.{Verdict}
+use Rattle.table.specs.declared.Verdict.the-variants as D
+use Rattle.table.specs.Table.{malformed, crowded, table, testedOf}
 use Rattle.machine.specs.Step.{turned, effectOf, taskBegun}
 use Rattle.machine.specs.Accepts.{Samples, SetsUp, Accepts}
 

@@ -37,13 +37,13 @@ use Rattle.ledger.specs.Operate.{recordOf}
 use Rattle.trace.specs.declared.Record.{Record}
 use Rattle.trace.specs.declared.Record.the-variants as K
 use Rattle.trace.specs.declared.Decoded.the-variants as D
-use Rattle.machine.specs.declared.Core.{Core}
+use Rattle.table.specs.declared.Core.{Core}
 use Rattle.machine.specs.declared.Machine.{Machine}
-use Rattle.machine.specs.declared.Values.{Values}
-use Rattle.machine.specs.declared.Outcome.the-variants as O
-use Rattle.machine.specs.declared.tasks.Task.{Task}
-use Rattle.machine.specs.Task.{taskOf, askedBy}
-use Rattle.machine.specs.Table.{table}
+use Rattle.table.specs.declared.Values.{Values}
+use Rattle.table.specs.declared.Outcome.the-variants as O
+use Rattle.table.specs.declared.tasks.Task.{Task}
+use Rattle.table.specs.Task.{taskOf, askedBy}
+use Rattle.table.specs.Table.{table}
 use Rattle.machine.specs.Step.{announcedBegun, effectOf, nextThread, placeOf, enteredStep, finishNext, coreOf, stepFrom, stepOf}
 use Rattle.machine.specs.Laws.{Operates, EveryAnswer}
 use Rattle.machine.specs.Answers.{values, announces, closed, answerTo, operatedOn, leftBy}

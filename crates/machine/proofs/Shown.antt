@@ -9,8 +9,8 @@ use Rattle.clock.specs.Announce.{announceOf, announcedBy}
 use Rattle.books.specs.Stamp.{stampOf}
 use Rattle.books.specs.Entries.{runs, charged, withChange, onward, closeOf, stopOf, switchOf, altered, reopenOf, alterOf, enterOf}
 use Rattle.books.specs.Enter.{unrecorded, past, busy, entryOf, concerned}
-use Rattle.machine.specs.Task.{taskOf, askedBy}
-use Rattle.machine.specs.Table.{malformed, crowded}
+use Rattle.table.specs.Task.{taskOf, askedBy}
+use Rattle.table.specs.Table.{malformed, crowded}
 use Rattle.machine.specs.Step.{announcedBegun, effectOf, taskBegun, decodedBegun, beginOf, nextThread, placeOf, enteredStep, finishNext, stepOf}
 use Rattle.machine.specs.Shown.{Shown}
 

@@ -26,15 +26,15 @@ use Rattle.trace.specs.declared.Record.{Record}
 use Rattle.trace.specs.declared.Record.the-variants as K
 use Rattle.trace.specs.declared.Setup.{Setup}
 use Rattle.trace.specs.declared.Decoded.the-variants as D
-use Rattle.machine.specs.declared.Core.{Core}
+use Rattle.table.specs.declared.Core.{Core}
 use Rattle.machine.specs.declared.Machine.{Machine}
-use Rattle.machine.specs.declared.Values.{Values}
-use Rattle.machine.specs.declared.Reason.{Reason}
-use Rattle.machine.specs.declared.Reason.the-variants as Why
-use Rattle.machine.specs.declared.Outcome.the-variants as O
-use Rattle.machine.specs.declared.tasks.Task.{Task}
-use Rattle.machine.specs.Task.{taskOf, askedBy}
-use Rattle.machine.specs.Table.{malformed, table}
+use Rattle.table.specs.declared.Values.{Values}
+use Rattle.table.specs.declared.Reason.{Reason}
+use Rattle.table.specs.declared.Reason.the-variants as Why
+use Rattle.table.specs.declared.Outcome.the-variants as O
+use Rattle.table.specs.declared.tasks.Task.{Task}
+use Rattle.table.specs.Task.{taskOf, askedBy}
+use Rattle.table.specs.Table.{malformed, table}
 use Rattle.machine.specs.Accepts.{Runs, Samples, Accepts}
 use Rattle.machine.specs.Step.{announcedBegun, effectOf, nextThread, placeOf, enteredStep, finishNext, coreOf, steppedFrom, stepFrom, stepOf}
 use Rattle.machine.specs.Laws.{Operates, lastRows, recordRows, operationTells}

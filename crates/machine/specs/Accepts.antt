@@ -10,9 +10,9 @@ use Rattle.clock.specs.declared.Sampled.the-variants as S
 use Rattle.clock.specs.Timer.{setup, setUp}
 use Rattle.clock.specs.Sample.{sampleOf, sampleValue}
 use Rattle.trace.specs.declared.Setup.{Setup}
-use Rattle.machine.specs.declared.Core.{Core}
-use Rattle.machine.specs.declared.tasks.Task.{Task}
-use Rattle.machine.specs.declared.tasks.Task.the-variants as T
+use Rattle.table.specs.declared.Core.{Core}
+use Rattle.table.specs.declared.tasks.Task.{Task}
+use Rattle.table.specs.declared.tasks.Task.the-variants as T
 
 abbrev pub Runs : Core → ℕ → Type 0
 Runs c p = ranOf (c .timer .counter) p ≡ R.Accepted (runN p (c .timer .counter))

@@ -19,7 +19,7 @@ use Rattle.ledger.specs.Operate.{freshOf, recordOf, operateOf}
 use Rattle.trace.specs.declared.Record.{Record}
 use Rattle.trace.specs.declared.Record.the-variants as K
 use Rattle.machine.specs.declared.Machine.{Machine}
-use Rattle.machine.specs.declared.Values.{Values}
+use Rattle.table.specs.declared.Values.{Values}
 use Rattle.trace.specs.declared.Setup.{Setup}
 
 abbrev pub values : ℕ → ℕ → Values

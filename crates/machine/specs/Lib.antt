@@ -1,6 +1,3 @@
-pub mod Task
-pub mod Table
-pub mod Says
 pub mod Step
 pub mod Accepts
 pub mod Shown

@@ -6,13 +6,7 @@ ghost use Rattle.clock.specs.Announce.{announceOf};
 ghost use Rattle.machine.specs.Step.{told, turned, withTimer, runBegun, thenBegun, announcedBegun, reportBegun, setupBegun, effectOf};
 ghost use Rattle.machine.specs.Accepts.{Runs, Samples, SetsUp, Accepts};
 use crate::Begun;
-use crate::Core;
 use crate::Next;
-use crate::Outcome;
-use crate::Reason;
-use crate::Values;
-use crate::tasks::Task;
-use crate::tasks::Then;
 use books::Books;
 use books::Entered;
 use clock::Announced;
@@ -22,6 +16,12 @@ use clock::Sampled;
 use clock::SetUp;
 use clock::Timer;
 use counter::Ran;
+use table::Core;
+use table::Outcome;
+use table::Reason;
+use table::Values;
+use table::tasks::Task;
+use table::tasks::Then;
 use trace::Setup;
 
 fn with_timer(core: Core, timer: Timer) -> Core

@@ -2,14 +2,14 @@
 ghost use mathlib.Core.Path.{_≡_};
 ghost use Rattle.books.specs.Enter.{entryOf};
 ghost use Rattle.machine.specs.Step.{withBooks, left, enteredStep, reportStep, freshStep};
-use crate::Core;
 use crate::CoreStep;
-use crate::Outcome;
-use crate::Reason;
-use crate::Values;
 use books::Books;
 use books::Entered;
 use books::Operation;
+use table::Core;
+use table::Outcome;
+use table::Reason;
+use table::Values;
 use units::Cycles;
 use usage::ThreadUsage;
 

@@ -1,12 +1,11 @@
-// 01's machine: one record's step over counter, clock and ledger, by 01's table of refusals in its order.
+// 01's machine: one record's step over counter, clock and ledger.
 ghost use mathlib.Core.Path.{_≡_};
 ghost use mathlib.Core.Bool.{false};
 ghost use Prim.Native.Nat.{_<_};
 ghost use lib.ListN.{length};
-ghost use Rattle.machine.specs.Table.{refusalOf, malformed};
+ghost use Rattle.table.specs.Table.{malformed};
 ghost use Rattle.trace.specs.Decode.{decodeOf};
 ghost use Rattle.machine.specs.Step.{taskBegun, decodedBegun, beginOf, nextThread, placeOf, finishOf, coreOf, machineOf, steppedFrom, stepOf, freshMachine};
-ghost use Rattle.machine.specs.Says.{outcomeSays};
 use books::Books;
 use books::Operation;
 use clock::Clock;
@@ -18,61 +17,28 @@ use ending::all_fresh;
 use ending::enter;
 use ending::left;
 use ending::report;
-use error::Refusal;
 use ledger::Ledger;
+use table::Core;
+use table::Outcome;
+use table::Reason;
 use table::Verdict;
 use table::malformed;
+use table::tasks::Task;
+use table::tasks::asked_by;
+use table::tasks::task_of;
 use table::tested;
-use tasks::Task;
-use tasks::asked_by;
-use tasks::task_of;
 use trace::Decoded;
 use units::Cycles;
 use usage::ThreadUsage;
 
 mod effects;
 mod ending;
-mod table;
-mod tasks;
 
 pub struct Machine {
     // Whether it is set up; until then nothing else is looked at.
     pub ready: bool,
     pub timer: Timer,
     pub ledger: Ledger,
-}
-
-// A machine without its thread records, so that a step costs the same for any number of them.
-pub struct Core {
-    pub ready: bool,
-    pub timer: Timer,
-    pub books: Books,
-}
-
-// Why a record is turned away: one case for each row of 01's table, in its order, and the malformed state before them.
-pub enum Reason {
-    Malformed,
-    BadRecord,
-    NotSetUp,
-    SecondSetup,
-    NoThread,
-    Running,
-    AnnounceFirst,
-    CyclesAbove,
-    // The leaf's own.
-    NotAnnounced(Refusal),
-    WontFit,
-}
-
-// What a record's line says after its number and code.
-pub struct Values {
-    pub x: u64,
-    pub y: u64,
-}
-
-pub enum Outcome {
-    Accepted(Values),
-    Refused(Reason),
 }
 
 // What is left to do once counter and clock have had their part of a step.
@@ -102,54 +68,6 @@ pub struct CoreStep {
 pub struct Stepped {
     pub outcome: Outcome,
     pub machine: Machine,
-}
-
-impl Reason {
-    pub fn refusal(self) -> Refusal
-        ensures { λ r. ⌜ r ≡ refusalOf self ⌝ }
-    {
-        match self {
-            Reason::Malformed => Refusal::Invalid,
-            Reason::BadRecord => Refusal::Invalid,
-            Reason::NotSetUp => Refusal::Missing,
-            Reason::SecondSetup => Refusal::Already,
-            Reason::NoThread => Refusal::BadThread,
-            Reason::Running => Refusal::Already,
-            Reason::AnnounceFirst => Refusal::Again,
-            Reason::CyclesAbove => Refusal::Overflow,
-            Reason::NotAnnounced(why) => why,
-            Reason::WontFit => Refusal::Overflow,
-        }
-    }
-}
-
-impl Outcome {
-    pub fn number(self) -> i32
-        ensures { λ r. ⌜ r ≡ outcomeSays self .number ⌝ }
-    {
-        match self {
-            Outcome::Accepted(_) => error::OK,
-            Outcome::Refused(why) => why.refusal().number(),
-        }
-    }
-
-    pub fn x(self) -> u64
-        ensures { λ r. ⌜ r ≡ outcomeSays self .value .x ⌝ }
-    {
-        match self {
-            Outcome::Accepted(values) => values.x,
-            Outcome::Refused(_) => 0,
-        }
-    }
-
-    pub fn y(self) -> u64
-        ensures { λ r. ⌜ r ≡ outcomeSays self .value .y ⌝ }
-    {
-        match self {
-            Outcome::Accepted(values) => values.y,
-            Outcome::Refused(_) => 0,
-        }
-    }
 }
 
 fn task_begun(core: Core, slots: usize, task: Task) -> Begun

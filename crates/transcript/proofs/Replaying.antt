@@ -12,12 +12,12 @@ use Rattle.usage.specs.declared.ThreadUsage.{ThreadUsage}
 use Rattle.usage.specs.Record.{newIdle}
 use Rattle.trace.specs.declared.Decoded.{Decoded}
 use Rattle.trace.specs.Decode.{decodeOf}
-use Rattle.machine.specs.declared.Core.{Core}
+use Rattle.table.specs.declared.Core.{Core}
 use Rattle.machine.specs.declared.Begun.{Begun}
 use Rattle.machine.specs.declared.Next.the-variants as N
 use Rattle.machine.specs.declared.CoreStep.{CoreStep}
 use Rattle.machine.specs.declared.Machine.{Machine}
-use Rattle.machine.specs.declared.Outcome.{Outcome}
+use Rattle.table.specs.declared.Outcome.{Outcome}
 use Rattle.machine.specs.Step.{coreOf, beginOf, placeOf, finishNext, finishOf, machineOf, stepOf}
 use Rattle.lines.specs.Text.{lineRoom}
 use Rattle.lines.specs.Writing.{Put}

@@ -13,8 +13,8 @@ use Rattle.error.specs.declared.Refusal.{Refusal}
 use Rattle.error.specs.declared.Refusal.the-variants.{NoSpace, Overflow}
 use Rattle.error.specs.Numbers.{max64}
 use Rattle.machine.specs.declared.Machine.{Machine}
-use Rattle.machine.specs.declared.Outcome.{Outcome}
-use Rattle.machine.specs.Says.{outcomeSays}
+use Rattle.table.specs.declared.Outcome.{Outcome}
+use Rattle.table.specs.Says.{outcomeSays}
 use Rattle.machine.specs.Step.{freshMachine}
 use Rattle.lines.specs.declared.Written.{Written}
 use Rattle.lines.specs.declared.Written.the-variants as W

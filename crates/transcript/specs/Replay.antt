@@ -12,8 +12,8 @@ use Rattle.error.specs.Numbers.{max64}
 use Rattle.trace.specs.declared.Decoded.{Decoded}
 use Rattle.trace.specs.Decode.{decodeOf}
 use Rattle.machine.specs.declared.Machine.{Machine}
-use Rattle.machine.specs.declared.Outcome.{Outcome}
-use Rattle.machine.specs.Says.{outcomeSays}
+use Rattle.table.specs.declared.Outcome.{Outcome}
+use Rattle.table.specs.Says.{outcomeSays}
 use Rattle.machine.specs.Step.{freshMachine, stepOf}
 use Rattle.lines.specs.declared.Written.{Written}
 use Rattle.lines.specs.declared.Written.the-variants as W

@@ -22,10 +22,10 @@ use lines::put_end;
 use lines::put_input;
 use lines::put_line;
 use lines::put_tail;
-use machine::Core;
 use machine::Machine;
 use machine::Next;
-use machine::Outcome;
+use table::Core;
+use table::Outcome;
 use units::Cycles;
 use usage::ThreadUsage;
 

@@ -1,0 +1,11 @@
+-- `asks_report`: whether the thread is past the table.
+use mathlib.Core.Path.{refl}
+use borrow.Author.Needs.{needs}
+use Rattle.table.proofs.tasks.asks_report.Statement.{statement}
+use Rattle.table.proofs.tasks.asks_report.Tie as tie
+
+returns : tie.Need-returns
+returns c = rw (c .asks-nothing .ensures) refl
+
+pub asks-report-spec : {M : Type 1} → statement M
+asks-report-spec = tie.close (tie.spec (λ c κs. search needs) returns)

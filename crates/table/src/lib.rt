@@ -1,0 +1,154 @@
+// 01's table of refusals: its tests in its order, made before the counter is touched, and what a step answers.
+ghost use mathlib.Core.Path.{_≡_};
+ghost use Prim.Native.Nat.{_+_};
+ghost use lib.Dec.{ltb};
+ghost use Rattle.error.specs.Numbers.{max64};
+ghost use Rattle.table.specs.Table.{refusalOf, malformed, crowded, testedOf};
+ghost use Rattle.table.specs.Says.{outcomeSays};
+use books::Books;
+use clock::Timer;
+use error::Refusal;
+use tasks::Asked;
+
+pub mod tasks;
+
+// A machine without its thread records, so that a step costs the same for any number of them.
+pub struct Core {
+    pub ready: bool,
+    pub timer: Timer,
+    pub books: Books,
+}
+
+// Why a record is turned away: one case for each row of 01's table, in its order, and the malformed state before them.
+pub enum Reason {
+    Malformed,
+    BadRecord,
+    NotSetUp,
+    SecondSetup,
+    NoThread,
+    Running,
+    AnnounceFirst,
+    CyclesAbove,
+    // The leaf's own.
+    NotAnnounced(Refusal),
+    WontFit,
+}
+
+// What a record's line says after its number and code.
+pub struct Values {
+    pub x: u64,
+    pub y: u64,
+}
+
+pub enum Outcome {
+    Accepted(Values),
+    Refused(Reason),
+}
+
+pub enum Verdict {
+    Passed,
+    Refused(Reason),
+}
+
+impl Reason {
+    pub fn refusal(self) -> Refusal
+        ensures { λ r. ⌜ r ≡ refusalOf self ⌝ }
+    {
+        match self {
+            Reason::Malformed => Refusal::Invalid,
+            Reason::BadRecord => Refusal::Invalid,
+            Reason::NotSetUp => Refusal::Missing,
+            Reason::SecondSetup => Refusal::Already,
+            Reason::NoThread => Refusal::BadThread,
+            Reason::Running => Refusal::Already,
+            Reason::AnnounceFirst => Refusal::Again,
+            Reason::CyclesAbove => Refusal::Overflow,
+            Reason::NotAnnounced(why) => why,
+            Reason::WontFit => Refusal::Overflow,
+        }
+    }
+}
+
+impl Outcome {
+    pub fn number(self) -> i32
+        ensures { λ r. ⌜ r ≡ outcomeSays self .number ⌝ }
+    {
+        match self {
+            Outcome::Accepted(_) => error::OK,
+            Outcome::Refused(why) => why.refusal().number(),
+        }
+    }
+
+    pub fn x(self) -> u64
+        ensures { λ r. ⌜ r ≡ outcomeSays self .value .x ⌝ }
+    {
+        match self {
+            Outcome::Accepted(values) => values.x,
+            Outcome::Refused(_) => 0,
+        }
+    }
+
+    pub fn y(self) -> u64
+        ensures { λ r. ⌜ r ≡ outcomeSays self .value .y ⌝ }
+    {
+        match self {
+            Outcome::Accepted(values) => values.y,
+            Outcome::Refused(_) => 0,
+        }
+    }
+}
+
+pub fn malformed(core: Core, slots: usize) -> bool
+    ensures { λ r. ⌜ r ≡ malformed core slots ⌝ }
+{
+    let timer = core.timer;
+    let books = core.books;
+    let formed = clock::well_formed(timer);
+    let lost = books::unrecorded(books, slots);
+    core.ready & (!formed | lost)
+}
+
+// Whether overflow + 2L - 1 passes 2^32 - 1; one is added on both sides, since a state handed in may have no L.
+fn crowded(timer: Timer) -> bool
+    ensures { λ r. ⌜ r ≡ crowded timer ⌝ }
+{
+    let twice = 2 * (timer.counter.period as u64);
+    let most = timer.clock.overflow as u64 + twice;
+    4294967296 < most
+}
+
+fn cycles_above(timer: Timer, cycles: u64) -> bool
+    ensures { λ r. ⌜ r ≡ ltb max64 (timer .counter .cycles .0 + cycles) ⌝ }
+{
+    let room = u64::MAX - cycles;
+    room < timer.counter.cycles.0
+}
+
+// 01's table, row by row: the first test that holds turns the record away, and nothing has been touched.
+pub fn tested(core: Core, asked: Asked) -> Verdict
+    ensures { λ r. ⌜ r ≡ testedOf core asked ⌝ }
+{
+    let timer = core.timer;
+    if asked.bad {
+        return Verdict::Refused(Reason::BadRecord);
+    }
+    if !core.ready & !asked.setup {
+        return Verdict::Refused(Reason::NotSetUp);
+    }
+    if core.ready & asked.setup {
+        return Verdict::Refused(Reason::SecondSetup);
+    }
+    if asked.past {
+        return Verdict::Refused(Reason::NoThread);
+    }
+    if asked.busy {
+        return Verdict::Refused(Reason::Running);
+    }
+    if asked.samples & crowded(timer) {
+        return Verdict::Refused(Reason::AnnounceFirst);
+    }
+    if cycles_above(timer, asked.cycles) {
+        return Verdict::Refused(Reason::CyclesAbove);
+    }
+    Verdict::Passed
+}

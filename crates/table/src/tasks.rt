@@ -1,0 +1,152 @@
+// What a record asks of the machine: each kind that changes the ledger is a sample and then one operation.
+ghost use mathlib.Core.Path.{_≡_};
+ghost use Prim.Native.Nat.{_+_};
+ghost use Rattle.table.specs.declared.tasks.Task.the-variants as T;
+ghost use Rattle.table.specs.Task.{taskOf, asksNothing, asksCycles, asksSample, asksOperation, asksReport, asksSetup, askedBy};
+use books::Books;
+use books::Operation;
+use clock::Gaps;
+use trace::Record;
+use trace::Setup;
+
+// What follows a sample: it is told, or an operation of the ledger is entered at its reading.
+pub enum Then {
+    Tell,
+    Operate(Operation),
+}
+
+// What a record asks for. Each kind that changes the ledger is a sample and then one operation.
+pub enum Task {
+    Run(u32),
+    Sample(Gaps, Then),
+    Announce,
+    Report(u32),
+    Setup(Setup),
+}
+
+// What of a task the table's rows look at.
+pub struct Asked {
+    // A setup, and one with a bad period or tick.
+    pub setup: bool,
+    pub bad: bool,
+    // A thread past the table, and a start while one runs.
+    pub past: bool,
+    pub busy: bool,
+    // It samples, and it runs so many cycles.
+    pub samples: bool,
+    pub cycles: u64,
+}
+
+pub fn task_of(decoded: Record) -> Task
+    ensures { λ r. ⌜ r ≡ taskOf decoded ⌝ }
+{
+    match decoded {
+        Record::Run(p) => Task::Run(p),
+        Record::Sample(gaps) => Task::Sample(gaps, Then::Tell),
+        Record::Announce => Task::Announce,
+        Record::Start(thread, gaps) => Task::Sample(gaps, Then::Operate(Operation::Start(thread))),
+        Record::Switch(thread, gaps) => Task::Sample(
+            gaps,
+            Then::Operate(Operation::Switch(thread)),
+        ),
+        Record::Stop(gaps) => Task::Sample(gaps, Then::Operate(Operation::Stop)),
+        Record::Enable(thread, gaps) => Task::Sample(
+            gaps,
+            Then::Operate(Operation::Enable(thread)),
+        ),
+        Record::Disable(thread, gaps) => Task::Sample(
+            gaps,
+            Then::Operate(Operation::Disable(thread)),
+        ),
+        Record::Report(thread) => Task::Report(thread),
+        Record::Setup(setup) => Task::Setup(setup),
+    }
+}
+
+// p, q and r as one number of cycles: three of 32 bits can't pass 64.
+fn gaps_sum(gaps: Gaps) -> u64
+    ensures { λ r. ⌜ r ≡ gaps .p + gaps .q + gaps .r ⌝ }
+{
+    gaps.p as u64 + gaps.q as u64 + gaps.r as u64
+}
+
+fn asks_nothing() -> Asked
+    ensures { λ r. ⌜ r ≡ asksNothing ⌝ }
+{
+    Asked {
+        setup: false,
+        bad: false,
+        past: false,
+        busy: false,
+        samples: false,
+        cycles: 0,
+    }
+}
+
+fn asks_cycles(cycles: u64) -> Asked
+    ensures { λ r. ⌜ r ≡ asksCycles cycles ⌝ }
+{
+    let mut asked = asks_nothing();
+    asked.cycles = cycles;
+    asked
+}
+
+fn asks_sample(gaps: Gaps) -> Asked
+    ensures { λ r. ⌜ r ≡ asksSample gaps ⌝ }
+{
+    let mut asked = asks_cycles(gaps_sum(gaps));
+    asked.samples = true;
+    asked
+}
+
+fn asks_operation(books: Books, slots: usize, operation: Operation, gaps: Gaps) -> Asked
+    ensures { λ r. ⌜ r ≡ asksOperation books slots operation gaps ⌝ }
+{
+    let past = books::past(operation, slots);
+    let busy = books::busy(books, operation);
+    let mut asked = asks_sample(gaps);
+    asked.past = past;
+    asked.busy = busy;
+    asked
+}
+
+fn asks_then(books: Books, slots: usize, gaps: Gaps, then: Then) -> Asked
+    ensures { λ r. ⌜ r ≡ askedBy books slots (T.Sample gaps then) ⌝ }
+{
+    match then {
+        Then::Tell => asks_sample(gaps),
+        Then::Operate(operation) => asks_operation(books, slots, operation, gaps),
+    }
+}
+
+fn asks_report(slots: usize, thread: u32) -> Asked
+    ensures { λ r. ⌜ r ≡ asksReport slots thread ⌝ }
+{
+    let k = thread as usize;
+    let mut asked = asks_nothing();
+    asked.past = slots <= k;
+    asked
+}
+
+// No bytes decode to a bad setup, but one can be handed in.
+fn asks_setup(setup: Setup) -> Asked
+    ensures { λ r. ⌜ r ≡ asksSetup setup ⌝ }
+{
+    let good = counter::good_period(setup.period);
+    let mut asked = asks_nothing();
+    asked.setup = true;
+    asked.bad = !(good & (setup.tick != 0));
+    asked
+}
+
+pub fn asked_by(books: Books, slots: usize, task: Task) -> Asked
+    ensures { λ r. ⌜ r ≡ askedBy books slots task ⌝ }
+{
+    match task {
+        Task::Run(p) => asks_cycles(p as u64),
+        Task::Sample(gaps, then) => asks_then(books, slots, gaps, then),
+        Task::Announce => asks_nothing(),
+        Task::Report(thread) => asks_report(slots, thread),
+        Task::Setup(setup) => asks_setup(setup),
+    }
+}

@@ -17,7 +17,6 @@ use Rattle.clock.specs.Timer.{setup}
 use Rattle.clock.specs.Sample.{sampleValue}
 use Rattle.clock.specs.Announce.{announceOf}
 use Rattle.books.specs.declared.Books.{Books}
-use Rattle.books.specs.declared.Operation.{Operation}
 use Rattle.books.specs.declared.Entered.{Entered}
 use Rattle.books.specs.declared.Entered.the-variants as E
 use Rattle.books.specs.Enter.{concerned, entryOf, nothingBooked}
@@ -112,7 +111,7 @@ nextThread b N.Fresh = 0
 unfoldable pub placeOf : Begun → ℕ → ℕ
 placeOf s slots = cond (ltb (nextThread (s .core .books) (s .next)) slots) (nextThread (s .core .books) (s .next)) 0
 
--- the record as it is left
+-- what a step leaves, but for a setup
 abbrev pub left : Core → ThreadUsage → Outcome → CoreStep
 left c u o = record { outcome = o; core = c; usage = u; fresh = false }
 
@@ -125,7 +124,7 @@ enteredStep c u (E.Refused why) = left c u (O.Refused Why.WontFit)
 abbrev pub reportStep : Core → ThreadUsage → CoreStep
 reportStep c u = left c u (accepted (u .«total_cycles» .0) (averageCycles (u .«total_cycles») (u .«num_windows») .0))
 
--- every record is to be a fresh one
+-- Setup: 0 0, and every record is to be a fresh one.
 abbrev pub freshStep : Core → CoreStep
 freshStep c = record { outcome = accepted 0 0; core = c; usage = newIdle; fresh = true }
 

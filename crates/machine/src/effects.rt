@@ -7,8 +7,6 @@ ghost use Rattle.machine.specs.Step.{told, turned, withTimer, runBegun, 
 ghost use Rattle.machine.specs.Accepts.{Runs, Samples, SetsUp, Accepts};
 use crate::Begun;
 use crate::Next;
-use books::Books;
-use books::Entered;
 use clock::Announced;
 use clock::Gaps;
 use clock::SampleTaken;

@@ -13,7 +13,7 @@ use table::Values;
 use units::Cycles;
 use usage::ThreadUsage;
 
-// The record stays as it is.
+// What a step leaves; only a setup asks for fresh records.
 pub(crate) fn left(core: Core, usage: ThreadUsage, outcome: Outcome) -> CoreStep
     ensures { λ r. ⌜ r ≡ left core usage outcome ⌝ }
 {

@@ -14,7 +14,6 @@ use Rattle.trace.specs.declared.Setup.{Setup}
 use Rattle.table.specs.declared.tasks.Asked.{Asked}
 use Rattle.table.specs.declared.tasks.Task.{Task}
 use Rattle.table.specs.declared.tasks.Task.the-variants as T
-use Rattle.table.specs.declared.tasks.Then.{Then}
 use Rattle.table.specs.declared.tasks.Then.the-variants as W
 
 -- kinds 3 to 7 sample first, with gaps p, q, r

@@ -1,5 +1,4 @@
 -- `decoded_begun` turns bytes that are no record away, and begins the others.
-use mathlib.Core.Path.{_∙_}
 use Rattle.machine.specs.Step.{decodedBegun}
 use borrow.Author.Needs.{needs}
 use Rattle.machine.proofs.decoded_begun.Statement.{statement}

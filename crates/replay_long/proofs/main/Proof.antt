@@ -1,5 +1,5 @@
 -- `main` reads and writes part after part, and ends.
-use Prim.Native.Nat.{ℕ, _-_, _≤_}
+use Prim.Native.Nat.{ℕ, _-_}
 use mathlib.Core.Path.{_≡_, refl}
 use lib.ListN.{length, length-replicate}
 use borrow.Author.Needs.{needs}

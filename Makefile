@@ -29,8 +29,8 @@ test:
 	rt fmt --check
 	sh tests/public.sh
 	sh tests/units.sh
+	rt check tickclock replay replay_long
 	sh tests/c/check.sh
-	rt check replay replay_long
 	sh tests/replay.sh
 	sh tests/reference.sh
 	rt ci

@@ -44,9 +44,9 @@ use Rattle.table.specs.Task.{taskOf, askedBy}
 use Rattle.table.specs.Table.{malformed, crowded, table, refusalOf}
 use Rattle.table.specs.Says.{outcomeSays}
 use Rattle.machine.specs.Step.{coreOf, stepOf}
-use Rattle.machine.specs.Laws.{Operates, fullRow, announceRows, lastRows, recordRows, everyRow, Exactly}
-use Rattle.machine.proofs.Keeping.{every-refusal, passed}
-use Rattle.machine.proofs.Stepping as stepping
+use Rattle.steps.specs.Laws.{Operates, fullRow, announceRows, lastRows, recordRows, everyRow, Exactly}
+use Rattle.steps.proofs.Keeping.{every-refusal, passed}
+use Rattle.steps.proofs.Stepping as stepping
 use Rattle.demands.specs.Rows.{malformedRow, rowsOf}
 use Rattle.demands.specs.Trace.{Watched, wholeOf, timeC, FairSample, watchAll, setUp}
 use Rattle.demands.specs.Demand1.{RowNumbers, FromSetup, NoSumRefused, Demand1}

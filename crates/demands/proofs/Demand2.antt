@@ -5,7 +5,7 @@ use Rattle.books.specs.Stamp.{stampOf}
 use Rattle.books.proofs.Refusing as books
 use Rattle.ledger.proofs.Operated.{every-operation}
 use Rattle.ledger.proofs.Refusing as ledger
-use Rattle.machine.proofs.Answering.{every-answer}
+use Rattle.steps.proofs.Answering.{every-answer}
 use Rattle.machine.specs.Step.{stepOf}
 use Rattle.demands.specs.Demand2.{Demand2}
 use Rattle.demands.proofs.Leaves.{elapsed-cycles-exact, cycles-to-ticks-exact, ticks-to-cycles-exact, max-ticks-exact, elapsed-decide-exact, announce-decide-exact, enable-exact, disable-exact, accumulate-exact, round-trip}

@@ -15,10 +15,10 @@ use Rattle.trace.specs.declared.Decoded.the-variants as D
 use Rattle.table.specs.declared.Values.{Values}
 use Rattle.table.specs.declared.Outcome.the-variants as Told
 use Rattle.machine.specs.Step.{stepOf}
-use Rattle.machine.specs.Answers as answers
-use Rattle.machine.specs.Answers.{answerTo, leftBy}
-use Rattle.machine.proofs.Answering.{announcement-is, every-answer}
-use Rattle.machine.proofs.Stepping.{sample-accepted, touches-accepted}
+use Rattle.steps.specs.Answers as answers
+use Rattle.steps.specs.Answers.{answerTo, leftBy}
+use Rattle.steps.proofs.Answering.{announcement-is, every-answer}
+use Rattle.steps.proofs.Stepping.{sample-accepted, touches-accepted}
 use Rattle.demands.specs.Trace.{Watched, timeC, FairSample, watchAll, setUp}
 use Rattle.demands.specs.Demand3.{LargestMultiple, Announces, Always, Fairly, Demand3}
 use Rattle.demands.proofs.Counting.{cycles-are}

@@ -34,10 +34,10 @@ use Rattle.table.specs.declared.Reason.the-variants as Why
 use Rattle.table.specs.declared.Outcome.the-variants as Told
 use Rattle.table.specs.Task.{taskOf}
 use Rattle.machine.specs.Accepts.{Samples}
-use Rattle.machine.specs.Laws.{Operates}
+use Rattle.steps.specs.Laws.{Operates}
 use Rattle.machine.specs.Step.{coreOf, stepOf}
-use Rattle.machine.proofs.Stepping as stepping
-use Rattle.machine.proofs.Stepping.{Touches}
+use Rattle.steps.proofs.Stepping as stepping
+use Rattle.steps.proofs.Stepping.{Touches}
 use Rattle.demands.specs.Trace.{Does, nothing, runs, tell, samples, operates, doesOf, sampleOnly, afterTouch, happened, Watched, wholeOf, timeC, seen, Fair, FairSample, watch, watchAll, setUp, FairTrace}
 use Rattle.demands.proofs.Counting.{time-is, fair-sample}
 use Rattle.demands.proofs.Moving.{Ending, taken, summed, left, timeOf, on-and-on, fair-on, entries-on, later, one-later, ending, idle, operation, moved, answeredOf, toldOf, announced-after, sum-announced, nothing-told, told-accepted, told-refused, adds, sum-kept, refused-left}

@@ -44,13 +44,13 @@ use Rattle.table.specs.declared.Outcome.the-variants as Told
 use Rattle.table.specs.Task.{taskOf}
 use Rattle.machine.specs.Accepts.{Samples}
 use Rattle.table.specs.Table.{malformed}
-use Rattle.machine.specs.Laws.{Operates, operationTells, recordRows}
-use Rattle.machine.specs.Answers.{answerTo, leftBy}
+use Rattle.steps.specs.Laws.{Operates, operationTells, recordRows}
+use Rattle.steps.specs.Answers.{answerTo, leftBy}
 use Rattle.machine.specs.Step.{coreOf, stepOf}
-use Rattle.machine.proofs.Keeping.{every-refusal, operated-timer, stays-ready}
-use Rattle.machine.proofs.Answering.{every-answer}
-use Rattle.machine.proofs.Stepping as stepping
-use Rattle.machine.proofs.Stepping.{Touches}
+use Rattle.steps.proofs.Keeping.{every-refusal, operated-timer, stays-ready}
+use Rattle.steps.proofs.Answering.{every-answer}
+use Rattle.steps.proofs.Stepping as stepping
+use Rattle.steps.proofs.Stepping.{Touches}
 use Rattle.demands.specs.Trace.{Does, nothing, runs, tell, samples, operates, doesOf, sampleOnly, afterTouch, Watched, wholeOf, timeC, seen, Fair}
 use Rattle.demands.proofs.Counting.{Tracks, tracks-run, tracks-announce, tracks-sample}
 

@@ -31,9 +31,9 @@ use Rattle.table.specs.declared.Reason.the-variants as Why
 use Rattle.table.specs.Task.{taskOf, askedBy}
 use Rattle.table.specs.Table.{malformed, crowded}
 use Rattle.machine.specs.Step.{announcedBegun, effectOf, taskBegun, decodedBegun, beginOf, nextThread, placeOf, enteredStep, finishNext, freshMachine, stepOf}
-use Rattle.machine.specs.Laws.{recordRows, lastRows}
-use Rattle.machine.specs.Answers.{values, answerTo, leftBy}
-use Rattle.machine.specs.Shown as handed
+use Rattle.steps.specs.Laws.{recordRows, lastRows}
+use Rattle.steps.specs.Answers.{values, answerTo, leftBy}
+use Rattle.steps.specs.Shown as handed
 use Rattle.demands.specs.Trace.{afterTouch, happened, seen, watchAll, FairTrace}
 use Rattle.demands.specs.Shown.{taken, atOnce}
 use Rattle.demands.specs.ShutOut.{ShutOut}

@@ -37,8 +37,8 @@ use Rattle.trace.specs.declared.Decoded.{Decoded}
 use Rattle.trace.specs.declared.Decoded.the-variants as D
 use Rattle.machine.specs.declared.Machine.{Machine}
 use Rattle.machine.specs.Step.{freshMachine, stepOf}
-use Rattle.machine.proofs.Stepping as stepping
-use Rattle.machine.proofs.Stepping.{Touches}
+use Rattle.steps.proofs.Stepping as stepping
+use Rattle.steps.proofs.Stepping.{Touches}
 use Rattle.demands.specs.Trace.{Does, nothing, runs, tell, samples, operates, doesOf, sampleOnly, afterTouch, happened, Watched, seen, watch, watchAll, setUp}
 use Rattle.demands.proofs.Counting.{Tracks}
 use Rattle.demands.proofs.Moving.{Ending, taken, summed, left, timeOf, on-and-on, entries-on, ending, Moved, operation, moved, Follows, follows, answeredOf, adds, sum-kept, toldOf, announced-after, sum-announced, nothing-told, refused-left}

@@ -22,8 +22,8 @@ use Rattle.table.specs.declared.Reason.the-variants as Why
 use Rattle.table.specs.declared.Values.{Values}
 use Rattle.table.specs.declared.Outcome.the-variants as Told
 use Rattle.table.specs.Says.{outcomeSays}
-use Rattle.machine.specs.Laws.{Exactly, Kept}
-use Rattle.machine.specs.Answers.{values}
+use Rattle.steps.specs.Laws.{Exactly, Kept}
+use Rattle.steps.specs.Answers.{values}
 use Rattle.demands.specs.Rows.{malformedRow, rowsOf}
 use Rattle.demands.specs.Trace.{Watched, Fair, doesOf, watchAll, setUp, FairTrace}
 

@@ -4,7 +4,7 @@ use Rattle.ledger.specs.Laws as ledger
 use Rattle.trace.specs.declared.Decoded.{Decoded}
 use Rattle.machine.specs.declared.Machine.{Machine}
 use Rattle.machine.specs.declared.Stepped.{Stepped}
-use Rattle.machine.specs.Laws.{Exactly, EveryAnswer}
+use Rattle.steps.specs.Laws.{Exactly, EveryAnswer}
 use Rattle.demands.specs.Rows.{rowsOf}
 use Rattle.demands.specs.Leaves.{ElapsedCyclesExact, CyclesToTicksExact, TicksToCyclesExact, MaxTicksExact, ElapsedDecideExact, AnnounceDecideExact, EnableExact, DisableExact, AccumulateExact, AverageIs, StampIs, StampsApart, RoundTrip}
 use Rattle.demands.specs.Refusals.{EntryRefusals}

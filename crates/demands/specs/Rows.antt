@@ -15,7 +15,7 @@ use Rattle.trace.specs.declared.Decoded.the-variants as D
 use Rattle.machine.specs.declared.Machine.{Machine}
 use Rattle.table.specs.declared.Reason.{Reason}
 use Rattle.table.specs.declared.Reason.the-variants as Why
-use Rattle.machine.specs.Laws.{announceRows, fullRow}
+use Rattle.steps.specs.Laws.{announceRows, fullRow}
 
 -- L is 2 to 16777215
 abbrev pub goodL : ℕ → Bool

@@ -21,7 +21,7 @@ use Rattle.table.specs.declared.Outcome.{Outcome}
 use Rattle.table.specs.declared.Outcome.the-variants as Told
 use Rattle.table.specs.Table.{crowded}
 use Rattle.machine.specs.Step.{stepOf}
-use Rattle.machine.specs.Answers.{values}
+use Rattle.steps.specs.Answers.{values}
 use Rattle.demands.specs.Trace.{afterTouch}
 use Rattle.demands.specs.Demand1.{Demand1}
 use Rattle.demands.specs.Demand2.{Demand2}

@@ -1,7 +1,2 @@
 pub mod Outcomes
 pub mod Accepting
-pub mod Shown
-pub mod Refusing
-pub mod Keeping
-pub mod Stepping
-pub mod Answering

@@ -1,5 +1,2 @@
 pub mod Step
 pub mod Accepts
-pub mod Shown
-pub mod Answers
-pub mod Laws

@@ -35,13 +35,13 @@ use Rattle.table.specs.declared.Outcome.the-variants as O
 use Rattle.table.specs.declared.tasks.Task.{Task}
 use Rattle.table.specs.Task.{taskOf, askedBy}
 use Rattle.table.specs.Table.{malformed, table}
 use Rattle.machine.specs.Accepts.{Runs, Samples, Accepts}
 use Rattle.machine.specs.Step.{announcedBegun, effectOf, nextThread, placeOf, enteredStep, finishNext, coreOf, steppedFrom, stepFrom, stepOf}
-use Rattle.machine.specs.Laws.{Operates, lastRows, recordRows, operationTells}
-use Rattle.machine.specs.Answers.{timed}
+use Rattle.steps.specs.Laws.{Operates, lastRows, recordRows, operationTells}
+use Rattle.steps.specs.Answers.{timed}
 use Rattle.machine.proofs.Accepting as accepting
-use Rattle.machine.proofs.Refusing as refusing
-use Rattle.machine.proofs.Keeping as keeping
+use Rattle.steps.proofs.Refusing as refusing
+use Rattle.steps.proofs.Keeping as keeping
 
 -- nothing turned the record away before the touch
 pub record Touches (m : Machine) (r : Record) : Type 0 where

@@ -33,8 +33,8 @@ use Rattle.table.specs.declared.tasks.Task.the-variants as T
 use Rattle.table.specs.declared.tasks.Then.the-variants as W
 use Rattle.table.specs.Task.{taskOf, askedBy}
 use Rattle.table.specs.Table.{malformed, table}
 use Rattle.machine.specs.Step.{coreOf}
-use Rattle.machine.specs.Answers.{timed, answerTo, leftBy}
+use Rattle.steps.specs.Answers.{timed, answerTo, leftBy}
 
 -- announce refused: the leaf's
 unfoldable pub announceRows : Announced → List (Row Reason)

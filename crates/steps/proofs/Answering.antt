@@ -38,20 +38,20 @@ use Rattle.trace.specs.declared.Record.{Record}
 use Rattle.trace.specs.declared.Record.the-variants as K
 use Rattle.trace.specs.declared.Decoded.the-variants as D
 use Rattle.table.specs.declared.Core.{Core}
 use Rattle.machine.specs.declared.Machine.{Machine}
 use Rattle.table.specs.declared.Values.{Values}
 use Rattle.table.specs.declared.Outcome.the-variants as O
 use Rattle.table.specs.declared.tasks.Task.{Task}
 use Rattle.table.specs.Task.{taskOf, askedBy}
 use Rattle.table.specs.Table.{table}
 use Rattle.machine.specs.Step.{announcedBegun, effectOf, nextThread, placeOf, enteredStep, finishNext, coreOf, stepFrom, stepOf}
-use Rattle.machine.specs.Laws.{Operates, EveryAnswer}
-use Rattle.machine.specs.Answers.{values, announces, closed, answerTo, operatedOn, leftBy}
+use Rattle.steps.specs.Laws.{Operates, EveryAnswer}
+use Rattle.steps.specs.Answers.{values, announces, closed, answerTo, operatedOn, leftBy}
 use Rattle.machine.proofs.Accepting.{ready-of}
-use Rattle.machine.proofs.Refusing.{recorded-of, slot-is}
-use Rattle.machine.proofs.Keeping.{operated-timer, stays-ready}
-use Rattle.machine.proofs.Stepping as stepping
-use Rattle.machine.proofs.Stepping.{Touches, had, touches-accepted}
+use Rattle.steps.proofs.Refusing.{recorded-of, slot-is}
+use Rattle.steps.proofs.Keeping.{operated-timer, stays-ready}
+use Rattle.steps.proofs.Stepping as stepping
+use Rattle.steps.proofs.Stepping.{Touches, had, touches-accepted}
 
 -- an accepted announcement is the leaf's
 pub announcement-is : (t : Timer) (a : Announcement) → announceOf t ≡ A.Accepted a → a ≡ announcementFrom t (announceValue (t .clock .count) (t .clock .announced) (t .clock .overflow) (t .clock .tick))

@@ -40,9 +40,9 @@ use Rattle.table.specs.declared.Verdict.{Verdict}
 use Rattle.table.specs.declared.Verdict.the-variants as Y
 use Rattle.table.specs.Task.{taskOf, askedBy}
 use Rattle.table.specs.Table.{malformed, table}
 use Rattle.machine.specs.Step.{turned, announcedBegun, effectOf, taskBegun, decodedBegun, beginOf, nextThread, placeOf, enteredStep, finishNext, coreOf, stepFrom, stepOf}
 use Rattle.machine.proofs.Accepting.{ready-of}
-use Rattle.machine.specs.Laws.{announceRows, lastRows, recordRows, everyRow, Exactly}
+use Rattle.steps.specs.Laws.{announceRows, lastRows, recordRows, everyRow, Exactly}
 
 -- a machine that is set up and not malformed has a record for the thread that runs
 recorded : (ready formed lost : Bool) → ready ≡ true → ready && (not formed || lost) ≡ false → lost ≡ false

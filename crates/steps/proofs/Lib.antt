@@ -1,0 +1,5 @@
+pub mod Shown
+pub mod Refusing
+pub mod Keeping
+pub mod Stepping
+pub mod Answering

@@ -154,7 +154,8 @@ pub enum SampleRead {
     Refused(Refusal),
 }
 
-// A sample's readings: p cycles to B, whose reading clears the flag, q to C, and r more. All are tested first, so that nothing is refused once the flag is gone.
+// A sample's readings: p cycles to B, whose reading clears the flag, q to C, and r more. All are tested first, so that
+// nothing is refused once the flag is gone.
 pub fn readings(counter: Counter, p: u32, q: u32, r: u32) -> SampleRead
     ensures { λ answer. ⌜ answer ≡ readingsOf counter p q r ⌝ }
 {

@@ -147,11 +147,18 @@ use Rattle.table.proofs.Outcome.y.Reads as table-Outcome-y
 use Rattle.table.proofs.malformed.Reads as table-malformed
 use Rattle.table.proofs.tested.Reads as table-tested
 use Rattle.table.proofs.tasks.task_of.Reads as table-task-of
-use Rattle.table.proofs.tasks.asked_by.Reads as table-asked-by
+use Rattle.table.proofs.tasks.asks_nothing.Reads as table-asks-nothing
+use Rattle.table.proofs.tasks.asks_cycles.Reads as table-asks-cycles
+use Rattle.table.proofs.tasks.asks_then.Reads as table-asks-then
+use Rattle.table.proofs.tasks.asks_report.Reads as table-asks-report
+use Rattle.table.proofs.tasks.asks_setup.Reads as table-asks-setup
+use Rattle.changes.proofs.task_change.Reads as changes-task-change
+use Rattle.changes.proofs.change_at.Reads as changes-change-at
 use Rattle.machine.proofs.begin.Reads as machine-begin
-use Rattle.machine.proofs.begin_at.Reads as machine-begin-at
+use Rattle.machine.proofs.slot.Reads as machine-slot
 use Rattle.machine.proofs.place.Reads as machine-place
 use Rattle.machine.proofs.finish.Reads as machine-finish
+use Rattle.machine.proofs.ending.reported.Reads as machine-reported
 use Rattle.machine.proofs.Machine.core.Reads as machine-Machine-core
 use Rattle.machine.proofs.step.Reads as machine-step
 use Rattle.machine.proofs.fresh.Reads as machine-fresh
@@ -159,6 +166,7 @@ use Rattle.lines.proofs.Written.number.Reads as lines-Written-number
 use Rattle.lines.proofs.Written.end.Reads as lines-Written-end
 use Rattle.transcript.proofs.room_for.Reads as transcript-room-for
 use Rattle.lines.proofs.put_line.Reads as lines-put-line
+use Rattle.lines.proofs.put_accepted.Reads as lines-put-accepted
 use Rattle.lines.proofs.put_end.Reads as lines-put-end
 use Rattle.lines.proofs.put_tail.Reads as lines-put-tail
 use Rattle.lines.proofs.put_input.Reads as lines-put-input
@@ -403,8 +411,16 @@ pub table-outcomes :
     OneOutcome table-malformed.Post ×
     OneOutcome table-tested.Post ×
     OneOutcome table-task-of.Post ×
-    OneOutcome table-asked-by.Post
+    OneOutcome table-asks-nothing.Post ×
+    OneOutcome table-asks-cycles.Post ×
+    OneOutcome table-asks-then.Post ×
+    OneOutcome table-asks-report.Post ×
+    OneOutcome table-asks-setup.Post
 table-outcomes = (
+  once _,
+  once _,
+  once _,
+  once _,
   once _,
   once _,
   once _,
@@ -415,15 +431,20 @@ table-outcomes = (
   once _,
 )
 
+pub changes-outcomes : OneOutcome changes-task-change.Post × OneOutcome changes-change-at.Post
+changes-outcomes = (once _, once _)
+
 pub machine-outcomes :
     OneOutcome machine-begin.Post ×
-    OneOutcome machine-begin-at.Post ×
+    OneOutcome machine-slot.Post ×
     OneOutcome machine-place.Post ×
     OneOutcome machine-finish.Post ×
+    OneOutcome machine-reported.Post ×
     OneOutcome machine-Machine-core.Post ×
     OneOutcome machine-step.Post ×
     OneOutcome machine-fresh.Post
 machine-outcomes = (
+  once _,
   once _,
   once _,
   once _,
@@ -446,12 +467,14 @@ lines-outcomes = (
 -- the answer, and what the lent buffer holds
 pub lines-lent-outcomes :
     OneOutcomeLent (λ exit. exit .0 .now) lines-put-line.Post ×
+    OneOutcomeLent (λ exit. exit .0 .now) lines-put-accepted.Post ×
     OneOutcomeLent (λ exit. exit .0 .now) lines-put-end.Post ×
     OneOutcomeLent (λ exit. exit .0 .now) lines-put-tail.Post ×
     OneOutcomeLent (λ exit. exit .0 .now) lines-put-input.Post ×
     OneOutcomeLent (λ exit. exit .1 .0 .now) transcript-replay.Post ×
     OneOutcomeLent (λ exit. exit .1 .1 .1 .0 .now) transcript-put-part.Post
 lines-lent-outcomes = (
+  once-lent (λ exit. exit .0 .now) _ _,
   once-lent (λ exit. exit .0 .now) _ _,
   once-lent (λ exit. exit .0 .now) _ _,
   once-lent (λ exit. exit .0 .now) _ _,

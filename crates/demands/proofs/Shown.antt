@@ -16,12 +16,12 @@ use Rattle.ledger.specs.Sums.{sumOf}
 use Rattle.ledger.specs.Run as ledger
 use Rattle.table.specs.Task.{taskOf, askedBy}
 use Rattle.table.specs.Table.{malformed, crowded}
-use Rattle.machine.specs.Step.{announcedBegun, effectOf, taskBegun, decodedBegun, beginOf, nextThread, placeOf, enteredStep, finishNext, stepOf}
+use Rattle.machine.specs.Step.{announcedBegun, effectOf, taskBegun, decodedBegun, beginOf, nextThread, slotOf, placeOf, enteredStep, finishNext, stepOf}
 use Rattle.demands.specs.Trace.{afterTouch, happened, seen, watchAll, FairTrace}
 use Rattle.demands.specs.Shown.{Shown}
 
 pub shown : Shown
-unfolding enabled accumulated averageCycles announceDecide cycle runN wraps goodPeriod inRange ranOf wellFormed sampleOf announceOf announcedBy stampOf runs charged withChange onward closeOf stopOf switchOf altered reopenOf alterOf enterOf unrecorded past busy entryOf concerned storedIn operateOf sumOf ledger.closesNow ledger.begins ledger.openAfter ledger.trackedAfter taskOf askedBy malformed crowded stepOf afterTouch happened seen watchAll FairTrace announcedBegun effectOf taskBegun decodedBegun beginOf nextThread placeOf enteredStep finishNext
+unfolding enabled accumulated averageCycles announceDecide cycle runN wraps goodPeriod inRange ranOf wellFormed sampleOf announceOf announcedBy stampOf runs charged withChange onward closeOf stopOf switchOf altered reopenOf alterOf enterOf unrecorded past busy entryOf concerned storedIn operateOf sumOf ledger.closesNow ledger.begins ledger.openAfter ledger.trackedAfter taskOf askedBy malformed crowded stepOf afterTouch happened seen watchAll FairTrace announcedBegun effectOf taskBegun decodedBegun beginOf nextThread slotOf placeOf enteredStep finishNext
 shown = record {
   printed-fair = (omega arith, (omega arith, (omega arith, (omega arith, (omega arith, (omega arith, (omega arith, (omega arith, (omega arith, (omega arith, tt))))))))));
   printed-reads = (refl, refl);

@@ -30,7 +30,7 @@ use Rattle.table.specs.declared.Outcome.the-variants as Told
 use Rattle.table.specs.declared.Reason.the-variants as Why
 use Rattle.table.specs.Task.{taskOf, askedBy}
 use Rattle.table.specs.Table.{malformed, crowded}
-use Rattle.machine.specs.Step.{announcedBegun, effectOf, taskBegun, decodedBegun, beginOf, nextThread, placeOf, enteredStep, finishNext, freshMachine, stepOf}
+use Rattle.machine.specs.Step.{announcedBegun, effectOf, taskBegun, decodedBegun, beginOf, nextThread, slotOf, placeOf, enteredStep, finishNext, freshMachine, stepOf}
 use Rattle.steps.specs.Laws.{recordRows, lastRows}
 use Rattle.steps.specs.Answers.{values, answerTo, leftBy}
 use Rattle.steps.specs.Shown as handed
@@ -43,7 +43,7 @@ ten : GoodSetup 10 4
 ten = record { least = omega arith; most = omega arith; ticks = omega arith }
 
 pub shut-out : ShutOut
-unfolding enabled accumulated averageCycles announceDecide cycle runN wraps goodPeriod inRange ranOf wellFormed sampleOf announceOf announcedBy stampOf runs charged withChange onward closeOf stopOf switchOf altered reopenOf alterOf enterOf unrecorded past busy entryOf concerned storedIn operateOf sumOf ledger.closesNow ledger.begins ledger.openAfter ledger.trackedAfter taskOf askedBy malformed crowded stepOf recordRows lastRows answerTo leftBy afterTouch happened seen watchAll FairTrace announcedBegun effectOf taskBegun decodedBegun beginOf nextThread placeOf enteredStep finishNext
+unfolding enabled accumulated averageCycles announceDecide cycle runN wraps goodPeriod inRange ranOf wellFormed sampleOf announceOf announcedBy stampOf runs charged withChange onward closeOf stopOf switchOf altered reopenOf alterOf enterOf unrecorded past busy entryOf concerned storedIn operateOf sumOf ledger.closesNow ledger.begins ledger.openAfter ledger.trackedAfter taskOf askedBy malformed crowded stepOf recordRows lastRows answerTo leftBy afterTouch happened seen watchAll FairTrace announcedBegun effectOf taskBegun decodedBegun beginOf nextThread slotOf placeOf enteredStep finishNext
 shut-out = record {
   refuser-falls = λ law.
       let accepted = law .exactly (handed.timed (handed.counter 10 10 false 0) (handed.clock 4 0 0 0)) (D.Accepted (K.Run 0)) .accepted .1 (refl, (refl, (refl, (refl, (refl, (refl, (refl, (refl, tt)))))))) in

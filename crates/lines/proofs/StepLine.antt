@@ -1,18 +1,18 @@
 -- A step's line from its four parts.
 use Prim.Native.Nat.{ℕ, _+_, _^_, _≤_, _<_}
-use mathlib.Core.Path.{_≡_, sym}
+use mathlib.Core.Path.{_≡_, refl, sym}
 use mathlib.Core.Bool.{Bool, false}
 use mathlib.Core.List.{List, [], _∷_, _++_, append-assoc}
 use native.Mathlib.Omega.{arith}
-use lib.ListN.{length}
+use lib.ListN.{length, set}
 use lib.Dec.{ltb}
-use lib.IntN.{ℤ}
+use lib.IntN.{ℤ, pos}
 use lib.Signed.{mag}
 use borrow.Author.Tests.{le-ltb}
 use Rattle.lines.specs.declared.Written.the-variants as W
 use Rattle.lines.specs.Text.{decimal, signed, lineText, writtenOf, putOf, lineRoom}
 use Rattle.lines.specs.Writing.{Room, Put}
-use Rattle.lines.proofs.Stores.{then-byte}
+use Rattle.lines.proofs.Stores.{then-byte, spelt, and-byte}
 use Rattle.lines.proofs.Sizes.{line-size, line-room}
 use Rattle.lines.proofs.Whole.{whole}
 use Rattle.lines.proofs.Parts.{spent, there}
@@ -59,9 +59,18 @@ module _ {l : List ℕ} {at n : ℕ} {z : ℤ} {x y : ℕ} (line : Line l at n z
         pub for-second : Room l₃ e₃ (decimal y)
         for-second = record { room = omega (arith, spent (decimal x) 32 _ left-2 r) }
 
-        pub whole-line : {l₄ : List ℕ} {e₄ : ℕ} {code : ℤ} → z ≡ code → Put l₃ l₄ e₃ e₄ (decimal y ++ 10 ∷ []) → (W.Accepted e₄ ≡ writtenOf l at (lineText n code x y)) × (l₄ ≡ putOf l at (lineText n code x y))
+        pub one-line : {l₄ : List ℕ} {e₄ : ℕ} → Put l₃ l₄ e₃ e₄ (decimal y ++ 10 ∷ []) → Put l l₄ at e₄ (lineText n z x y)
         unfolding lineText
-        whole-line is s =
-            rw (← is)
-            (whole l at (lineText n z x y) (line .room)
-            (simp append-assoc (then-byte (decimal n) 32 _ p (then-byte (signed z) 32 _ q (then-byte (decimal x) 32 _ r s)))))
+        one-line s = simp append-assoc (then-byte (decimal n) 32 _ p (then-byte (signed z) 32 _ q (then-byte (decimal x) 32 _ r s)))
+
+        pub whole-line : {l₄ : List ℕ} {e₄ : ℕ} {code : ℤ} → z ≡ code → Put l₃ l₄ e₃ e₄ (decimal y ++ 10 ∷ []) → (W.Accepted e₄ ≡ writtenOf l at (lineText n code x y)) × (l₄ ≡ putOf l at (lineText n code x y))
+        whole-line is s = rw (← is) (whole l at (lineText n z x y) (line .room) (one-line s))
+
+-- the code of a step that was accepted: one digit, and the space after it
+pub zero-room : {l : List ℕ} {at : ℕ} → Room l at (signed (pos 0)) → at + 2 ≤ length l
+unfolding signed decimal
+zero-room h = let room = h .room in omega arith
+
+pub zero-code : (l : List ℕ) (at : ℕ) → Put l (set (set l at 48) (at + 1) 32) at (at + 1 + 1) (signed (pos 0) ++ 32 ∷ [])
+unfolding signed decimal
+zero-code l at = and-byte (signed (pos 0)) 32 (spelt refl refl)

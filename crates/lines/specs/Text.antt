@@ -41,6 +41,13 @@ tailText = 116 ∷ 97 ∷ 105 ∷ 108 ∷ 32 ∷ signed (numberOf Invalid) ++ 10
 unfoldable pub inputText : List ℕ
 inputText = 105 ∷ 110 ∷ 112 ∷ 117 ∷ 116 ∷ 32 ∷ signed (numberOf NoSpace) ++ 10 ∷ []
 
+-- no line of 64-bit numbers and a 32-bit code is longer, nor is the last one
+abbrev pub lineRoom : ℕ
+lineRoom = 75
+
+abbrev pub endRoom : ℕ
+endRoom = 46
+
 -- whether there is room for a text from a place on
 unfoldable pub fits : List ℕ → ℕ → List ℕ → Bool
 fits buffer at text = leb (at + length text) (length buffer)
@@ -53,9 +60,9 @@ putOf buffer at text = cond (fits buffer at text) (sets buffer at text) buffer
 unfoldable pub writtenOf : List ℕ → ℕ → List ℕ → Written
 writtenOf buffer at text = cond (fits buffer at text) (W.Accepted (at + length text)) (W.Refused NoSpace)
 
--- no line of 64-bit numbers and a 32-bit code is longer, nor is the last one
-abbrev pub lineRoom : ℕ
-lineRoom = 75
+-- the same where room is asked for the longest line, however short the text is
+unfoldable pub roomyPut : List ℕ → ℕ → List ℕ → List ℕ
+roomyPut buffer at text = cond (ltb (length buffer) (at + lineRoom)) buffer (sets buffer at text)
 
-abbrev pub endRoom : ℕ
-endRoom = 46
+unfoldable pub roomyWritten : List ℕ → ℕ → List ℕ → Written
+roomyWritten buffer at text = cond (ltb (length buffer) (at + lineRoom)) (W.Refused NoSpace) (W.Accepted (at + length text))

@@ -132,7 +132,7 @@ fn put_digits(out: &mut [u8], at: usize, number: u64) -> usize
     at + size
 }
 
-// A number and the byte after it. It is called from two places, so that it stands once
+// A number and the byte after it. It is called from several places, so that it stands once
 // and the compiler copies only `put_number`, which is short.
 pub(crate) fn put_long(out: &mut [u8], at: usize, number: u64, after: u8) -> usize
     requires { ⌜ Room (now out) at (decimal number) ⌝ }

@@ -4,8 +4,9 @@ ghost use Prim.Native.Nat.{_+_, _≤_};
 ghost use mathlib.Core.List.{[], _∷_, _++_};
 ghost use lib.ListN.{length};
 ghost use lib.Dec.{ltb};
+ghost use lib.IntN.{pos};
 ghost use Rattle.lines.specs.Says.{writtenSays};
-ghost use Rattle.lines.specs.Text.{signed, lineText, endText, tailText, inputText, putOf, writtenOf};
+ghost use Rattle.lines.specs.Text.{signed, lineText, endText, tailText, inputText, putOf, writtenOf, roomyPut, roomyWritten};
 use buffer::lacks_room;
 use buffer::put_letters;
 use codes::code_places;
@@ -81,6 +82,25 @@ pub fn put_line(out: &mut [u8], at: usize, number: u64, code: i32, x: u64, y: u6
     let third = put_code(out, second, code, b' ');
     let fourth = put_number(out, third, x, b' ');
     let end = put_number(out, fourth, y, b'\n');
+    Written::Accepted(end)
+}
+
+// The line of a step that was accepted, where the longest line has room: nothing has to be counted,
+// and code 0 is one digit.
+pub fn put_accepted(out: &mut [u8], at: usize, number: u64, x: u64, y: u64) -> Written
+    ensures answer { λ r. ⌜ r ≡ roomyWritten (now (out .entry)) at (lineText number (pos 0) x y) ⌝ }
+    ensures buffer { λ r. ⌜ now (out .exit) ≡ roomyPut (now (out .entry)) at (lineText number (pos 0) x y) ⌝ }
+{
+    if lacks_room(out.len(), at, LINE_ROOM) {
+        return Written::Refused(Refusal::NoSpace);
+    }
+    let code = put_long(out, at, number, b' ');
+    let space = code + 1;
+    let first = space + 1;
+    out[code] = b'0';
+    out[space] = b' ';
+    let last = put_number(out, first, x, b' ');
+    let end = put_number(out, last, y, b'\n');
     Written::Accepted(end)
 }
 

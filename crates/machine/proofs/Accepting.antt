@@ -95,20 +95,3 @@ module _ (c : Core) (slots : ℕ) (whole : malformed c slots ≡ false) where
   accepted T.Announce none = tt
   accepted (T.Report i) none = tt
   accepted (T.Setup s) none = set-up-accepted (s .period) (s .tick) _ refl _ refl (none .0)
-
--- a task's own case, from what is known of the task
-pub accepts-as : (c : Core) {task case : Task} → task ≡ case → Accepts c task → Accepts c case
-accepts-as c e h = subst (Accepts c) e h
-
-module _ (c : Core) (slots : ℕ) (task : Task) {asked : Asked} {verdict : Verdict} (tests : verdict ≡ testedOf c asked) (asks : asked ≡ askedBy (c .books) slots task) where
-  pub passed-all : verdict ≡ D.Passed → NoneHolds (table c (askedBy (c .books) slots task))
-  unfolding testedOf
-  passed-all e = accepted-only D.Refused D.Passed (λ why q. clash (cc)) (table c (askedBy (c .books) slots task)) (ap (testedOf c) (sym asks) ∙ (sym tests ∙ e))
-
-  pub passes : verdict ≡ D.Passed → effectOf c task ≡ taskBegun c slots task
-  unfolding taskBegun
-  passes e = sym (accepts (turned c) (effectOf c task) (table c (askedBy (c .books) slots task)) (passed-all e))
-
-  pub fails : {why : Reason} → verdict ≡ D.Refused why → turned c why ≡ taskBegun c slots task
-  unfolding testedOf taskBegun
-  fails e = sym (refuses (turned c) (effectOf c task) (table c (askedBy (c .books) slots task)) _ (refused-only D.Refused D.Passed (λ why q. clash (cc)) (λ r s q. cc) (table c (askedBy (c .books) slots task)) _ (ap (testedOf c) (sym asks) ∙ (sym tests ∙ e))))

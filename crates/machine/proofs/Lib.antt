@@ -1,2 +1,3 @@
 pub mod Outcomes
 pub mod Accepting
+pub mod Changing

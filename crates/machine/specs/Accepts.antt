@@ -1,4 +1,4 @@
--- What the tests make sure of, for the private workers behind them: the entries below accept.
+-- What the tests make sure of: the entries below accept.
 use Prim.Native.Nat.{ℕ}
 use mathlib.Core.Path.{_≡_}
 use Rattle.counter.specs.declared.Ran.the-variants as R

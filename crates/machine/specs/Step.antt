@@ -25,6 +25,7 @@ use Rattle.trace.specs.declared.Setup.{Setup}
 use Rattle.trace.specs.declared.Decoded.{Decoded}
 use Rattle.trace.specs.declared.Decoded.the-variants as D
 use Rattle.table.specs.declared.Core.{Core}
+use Rattle.table.specs.declared.Values.{Values}
 use Rattle.machine.specs.declared.Begun.{Begun}
 use Rattle.machine.specs.declared.Next.{Next}
 use Rattle.machine.specs.declared.Next.the-variants as N
@@ -107,9 +108,12 @@ nextThread b (N.Enter op reading) = concerned b op
 nextThread b (N.Report i) = i
 nextThread b N.Fresh = 0
 
--- and its slot in a table of so many
+-- a thread's slot in a table of so many
+unfoldable pub slotOf : ℕ → ℕ → ℕ
+slotOf i slots = cond (ltb i slots) i 0
+
 unfoldable pub placeOf : Begun → ℕ → ℕ
-placeOf s slots = cond (ltb (nextThread (s .core .books) (s .next)) slots) (nextThread (s .core .books) (s .next)) 0
+placeOf s slots = slotOf (nextThread (s .core .books) (s .next)) slots
 
 -- what a step leaves, but for a setup
 abbrev pub left : Core → ThreadUsage → Outcome → CoreStep
@@ -121,8 +125,11 @@ enteredStep c u (E.Accepted e) = left (withBooks c (e .books)) (e .usage) (accep
 enteredStep c u (E.Refused why) = left c u (O.Refused Why.WontFit)
 
 -- Report: total, average.
+abbrev pub reportOf : ThreadUsage → Values
+reportOf u = record { x = u .«total_cycles» .0; y = averageCycles (u .«total_cycles») (u .«num_windows») .0 }
+
 abbrev pub reportStep : Core → ThreadUsage → CoreStep
-reportStep c u = left c u (accepted (u .«total_cycles» .0) (averageCycles (u .«total_cycles») (u .«num_windows») .0))
+reportStep c u = left c u (O.Accepted (reportOf u))
 
 -- Setup: 0 0, and every record is to be a fresh one.
 abbrev pub freshStep : Core → CoreStep

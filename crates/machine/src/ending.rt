@@ -1,7 +1,7 @@
 // The second part of a step: with the one thread record concerned.
 ghost use mathlib.Core.Path.{_≡_};
 ghost use Rattle.books.specs.Enter.{entryOf};
-ghost use Rattle.machine.specs.Step.{withBooks, left, enteredStep, reportStep, freshStep};
+ghost use Rattle.machine.specs.Step.{withBooks, left, enteredStep, reportOf, reportStep, freshStep};
 use crate::CoreStep;
 use books::Books;
 use books::Entered;
@@ -65,16 +65,22 @@ pub(crate) fn enter(
     entered_step(core, usage, entered)
 }
 
-pub(crate) fn report(core: Core, usage: ThreadUsage) -> CoreStep
-    ensures { λ r. ⌜ r ≡ reportStep core usage ⌝ }
+// What there is to tell of a thread's record.
+pub fn reported(usage: ThreadUsage) -> Values
+    ensures { λ r. ⌜ r ≡ reportOf usage ⌝ }
 {
     let total = usage.total_cycles;
     let average = usage::average_cycles(total, usage.num_windows);
-    let values = Values {
+    Values {
         x: total.0,
         y: average.0,
-    };
-    left(core, usage, Outcome::Accepted(values))
+    }
+}
+
+pub(crate) fn report(core: Core, usage: ThreadUsage) -> CoreStep
+    ensures { λ r. ⌜ r ≡ reportStep core usage ⌝ }
+{
+    left(core, usage, Outcome::Accepted(reported(usage)))
 }
 
 pub(crate) fn all_fresh(core: Core) -> CoreStep

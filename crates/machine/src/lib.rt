@@ -1,17 +1,15 @@
 // 01's machine: one record's step over counter, clock and ledger.
 ghost use mathlib.Core.Path.{_≡_};
-ghost use mathlib.Core.Bool.{false};
 ghost use Prim.Native.Nat.{_<_};
 ghost use lib.ListN.{length};
-ghost use Rattle.table.specs.Table.{malformed};
-ghost use Rattle.trace.specs.Decode.{decodeOf};
-ghost use Rattle.machine.specs.Step.{taskBegun, decodedBegun, beginOf, nextThread, placeOf, finishOf, coreOf, machineOf, steppedFrom, stepOf, freshMachine};
+ghost use Rattle.machine.specs.Step.{beginOf, nextThread, slotOf, placeOf, finishOf, coreOf, machineOf, steppedFrom, stepOf, freshMachine};
 use books::Books;
 use books::Operation;
+use changes::task_change;
 use clock::Clock;
 use clock::Timer;
 use counter::Counter;
-use effects::effect;
+use effects::begun_by;
 use effects::turned_away;
 use ending::all_fresh;
 use ending::enter;
@@ -21,18 +19,14 @@ use ledger::Ledger;
 use table::Core;
 use table::Outcome;
 use table::Reason;
-use table::Verdict;
 use table::malformed;
-use table::tasks::Task;
-use table::tasks::asked_by;
 use table::tasks::task_of;
-use table::tested;
 use trace::Decoded;
 use units::Cycles;
 use usage::ThreadUsage;
 
 mod effects;
-mod ending;
+pub mod ending;
 
 pub struct Machine {
     // Whether it is set up; until then nothing else is looked at.
@@ -70,28 +64,6 @@ pub struct Stepped {
     pub machine: Machine,
 }
 
-fn task_begun(core: Core, slots: usize, task: Task) -> Begun
-    requires { ⌜ malformed core slots ≡ false ⌝ }
-    ensures { λ r. ⌜ r ≡ taskBegun core slots task ⌝ }
-{
-    let books = core.books;
-    let verdict = tested(core, asked_by(books, slots, task));
-    match verdict {
-        Verdict::Passed => effect(core, task),
-        Verdict::Refused(why) => turned_away(core, why),
-    }
-}
-
-fn decoded_begun(core: Core, slots: usize, decoded: Decoded) -> Begun
-    requires { ⌜ malformed core slots ≡ false ⌝ }
-    ensures { λ r. ⌜ r ≡ decodedBegun core slots decoded ⌝ }
-{
-    let Decoded::Accepted(accepted) = decoded else {
-        return turned_away(core, Reason::BadRecord);
-    };
-    task_begun(core, slots, task_of(accepted))
-}
-
 // The first part of a step, for which no thread record is needed. The second is `finish`, with the record at `place`.
 pub fn begin(core: Core, slots: usize, decoded: Decoded) -> Begun
     ensures { λ r. ⌜ r ≡ beginOf core slots decoded ⌝ }
@@ -99,18 +71,10 @@ pub fn begin(core: Core, slots: usize, decoded: Decoded) -> Begun
     if malformed(core, slots) {
         return turned_away(core, Reason::Malformed);
     }
-    decoded_begun(core, slots, decoded)
-}
-
-// The same for the record at a place of a trace. It is decoded after the state was tested: then the compiler goes from
-// a record's kind straight to what that kind does.
-pub fn begin_at(core: Core, slots: usize, trace: &[u8], at: usize) -> Begun
-    ensures { λ r. ⌜ r ≡ beginOf core slots (decodeOf (now (trace .entry)) at) ⌝ }
-{
-    if malformed(core, slots) {
-        return turned_away(core, Reason::Malformed);
+    match decoded {
+        Decoded::Accepted(accepted) => begun_by(core, task_change(core, slots, task_of(accepted))),
+        Decoded::Refused(_) => turned_away(core, Reason::BadRecord),
     }
-    decoded_begun(core, slots, trace::decode(trace, at))
 }
 
 fn next_thread(books: Books, next: Next) -> u32
@@ -124,18 +88,24 @@ fn next_thread(books: Books, next: Next) -> u32
     }
 }
 
+// A thread's slot; the first for a thread past the table.
+pub fn slot(thread: u32, slots: usize) -> usize
+    ensures { λ r. ⌜ r ≡ slotOf thread slots ⌝ }
+{
+    let k = thread as usize;
+    if k < slots {
+        return k;
+    }
+    0
+}
+
 // The slot of the record that a step concerns; the first where it concerns none, or one past the table.
 pub fn place(begun: Begun, slots: usize) -> usize
     ensures { λ r. ⌜ r ≡ placeOf begun slots ⌝ }
 {
     let books = begun.core.books;
     let next = begun.next;
-    let thread = next_thread(books, next);
-    let k = thread as usize;
-    if k < slots {
-        return k;
-    }
-    0
+    slot(next_thread(books, next), slots)
 }
 
 // The second part of a step: it gets the record at `place`, and gives it back.

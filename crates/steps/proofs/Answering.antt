@@ -44,7 +44,7 @@ use Rattle.table.specs.declared.Outcome.the-variants as O
 use Rattle.table.specs.declared.tasks.Task.{Task}
 use Rattle.table.specs.Task.{taskOf, askedBy}
 use Rattle.table.specs.Table.{table}
-use Rattle.machine.specs.Step.{announcedBegun, effectOf, nextThread, placeOf, enteredStep, finishNext, coreOf, stepFrom, stepOf}
+use Rattle.machine.specs.Step.{announcedBegun, effectOf, nextThread, slotOf, placeOf, enteredStep, finishNext, coreOf, stepFrom, stepOf}
 use Rattle.steps.specs.Laws.{Operates, EveryAnswer}
 use Rattle.steps.specs.Answers.{values, announces, closed, answerTo, operatedOn, leftBy}
 use Rattle.machine.proofs.Accepting.{ready-of}
@@ -80,7 +80,7 @@ module _ (m : Machine) (answered : Values) where
   effect-told r t e = sym (ap (λ s. s .outcome) (had m r t)) ∙ e
 
   operation : (r : Record) (g : Gaps) (o : Operates r g) → Touches m r → stepOf m (D.Accepted r) .outcome ≡ O.Accepted answered → answered ≡ closed m (o .0) g
-  unfolding effectOf nextThread placeOf finishNext askedBy
+  unfolding effectOf nextThread slotOf placeOf finishNext askedBy
   operation r g o t e =
       let op = o .0 in
       let none = subst (λ (task : Task). NoneHolds (table (coreOf m) (askedBy (m .ledger .books) slots task))) (o .1) (t .none) in
@@ -98,7 +98,7 @@ module _ (m : Machine) (answered : Values) where
   announced (A.Refused why) q e = clash (cc)
 
   reported : (i : ℕ) → Touches m (K.Report i) → stepOf m (D.Accepted (K.Report i)) .outcome ≡ O.Accepted answered → answered ≡ answerTo m (K.Report i)
-  unfolding effectOf answerTo taskOf nextThread placeOf finishNext askedBy
+  unfolding effectOf answerTo taskOf nextThread slotOf placeOf finishNext askedBy
   reported i t e =
       let told = rw (lt-ltb i slots (leb-false slots i (t .none .1 .1 .1 .0))) at (effect-told (K.Report i) t e) in
       cc

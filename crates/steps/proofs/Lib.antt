@@ -3,3 +3,5 @@ pub mod Refusing
 pub mod Keeping
 pub mod Stepping
 pub mod Answering
+pub mod WholeClock
+pub mod Whole

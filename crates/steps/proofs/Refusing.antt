@@ -40,7 +40,7 @@ use Rattle.table.specs.declared.Verdict.{Verdict}
 use Rattle.table.specs.declared.Verdict.the-variants as Y
 use Rattle.table.specs.Task.{taskOf, askedBy}
 use Rattle.table.specs.Table.{malformed, table}
-use Rattle.machine.specs.Step.{turned, announcedBegun, effectOf, taskBegun, decodedBegun, beginOf, nextThread, placeOf, enteredStep, finishNext, coreOf, stepFrom, stepOf}
+use Rattle.machine.specs.Step.{turned, announcedBegun, effectOf, taskBegun, decodedBegun, beginOf, nextThread, slotOf, placeOf, enteredStep, finishNext, coreOf, stepFrom, stepOf}
 use Rattle.machine.proofs.Accepting.{ready-of}
 use Rattle.steps.specs.Laws.{announceRows, lastRows, recordRows, everyRow, Exactly}
 
@@ -106,7 +106,7 @@ module _ (m : Machine) where
   announced-verdict (A.Refused why) = refl
 
   effect-verdict : (task : Task) → malformed c slots ≡ false → NoneHolds (rowsOf task) → verdictFrom (effectOf c task) ≡ inOrder (lastRows m task) Y.Refused Y.Passed
-  unfolding effectOf finishNext nextThread placeOf lastRows verdictOf askedBy
+  unfolding effectOf finishNext nextThread slotOf placeOf lastRows verdictOf askedBy
   effect-verdict (T.Run p) whole none = refl
   effect-verdict (T.Sample g W.Tell) whole none = refl
   effect-verdict (T.Sample g (W.Operate op)) whole none =

@@ -11,11 +11,11 @@ use Rattle.books.specs.Entries.{runs, charged, withChange, onward, closeOf, sto
 use Rattle.books.specs.Enter.{unrecorded, past, busy, entryOf, concerned}
 use Rattle.table.specs.Task.{taskOf, askedBy}
 use Rattle.table.specs.Table.{malformed, crowded}
-use Rattle.machine.specs.Step.{announcedBegun, effectOf, taskBegun, decodedBegun, beginOf, nextThread, placeOf, enteredStep, finishNext, stepOf}
+use Rattle.machine.specs.Step.{announcedBegun, effectOf, taskBegun, decodedBegun, beginOf, nextThread, slotOf, placeOf, enteredStep, finishNext, stepOf}
 use Rattle.steps.specs.Shown.{Shown}
 
 pub shown : Shown
-unfolding enabled accumulated averageCycles announceDecide cycle runN goodPeriod inRange wellFormed announceOf announcedBy stampOf runs charged withChange onward closeOf stopOf switchOf altered reopenOf alterOf enterOf unrecorded past busy entryOf concerned taskOf askedBy malformed crowded announcedBegun effectOf taskBegun decodedBegun beginOf nextThread placeOf enteredStep finishNext stepOf
+unfolding enabled accumulated averageCycles announceDecide cycle runN goodPeriod inRange wellFormed announceOf announcedBy stampOf runs charged withChange onward closeOf stopOf switchOf altered reopenOf alterOf enterOf unrecorded past busy entryOf concerned taskOf askedBy malformed crowded announcedBegun effectOf taskBegun decodedBegun beginOf nextThread slotOf placeOf enteredStep finishNext stepOf
 shown = record {
   cycles-fit = refl;
   cycles-full = refl;

@@ -36,7 +36,7 @@ use Rattle.table.specs.declared.tasks.Task.{Task}
 use Rattle.table.specs.Task.{taskOf, askedBy}
 use Rattle.table.specs.Table.{malformed, table}
 use Rattle.machine.specs.Accepts.{Runs, Samples, Accepts}
-use Rattle.machine.specs.Step.{announcedBegun, effectOf, nextThread, placeOf, enteredStep, finishNext, coreOf, steppedFrom, stepFrom, stepOf}
+use Rattle.machine.specs.Step.{announcedBegun, effectOf, nextThread, slotOf, placeOf, enteredStep, finishNext, coreOf, steppedFrom, stepFrom, stepOf}
 use Rattle.steps.specs.Laws.{Operates, lastRows, recordRows, operationTells}
 use Rattle.steps.specs.Answers.{timed}
 use Rattle.machine.proofs.Accepting as accepting
@@ -102,7 +102,7 @@ module _ (m : Machine) where
   stored k there (E.Refused why) b = rw b (same-ledger k)
 
   pub operated : (r : Record) (g : Gaps) (o : Operates r g) → m .ready ≡ true → Touches m r → stepOf m (D.Accepted r) .machine .ledger ≡ operateOf (m .ledger) (sampleValue (m .timer) g .reading) (o .0) .ledger
-  unfolding effectOf operateOf nextThread placeOf finishNext askedBy
+  unfolding effectOf operateOf nextThread slotOf placeOf finishNext askedBy
   operated r g o ready t =
       let op = o .0 in
       let none = subst (λ (task : Task). NoneHolds (table (coreOf m) (askedBy (m .ledger .books) slots task))) (o .1) (t .none) in
@@ -118,7 +118,7 @@ module _ (m : Machine) where
   told k there (E.Refused why) = refl
 
   pub answered : (r : Record) (g : Gaps) (o : Operates r g) → m .ready ≡ true → Touches m r → stepOf m (D.Accepted r) .outcome ≡ operationTells (operateOf (m .ledger) (sampleValue (m .timer) g .reading) (o .0) .answer)
-  unfolding effectOf operateOf nextThread placeOf finishNext askedBy
+  unfolding effectOf operateOf nextThread slotOf placeOf finishNext askedBy
   answered r g o ready t =
       let op = o .0 in
       let none = subst (λ (task : Task). NoneHolds (table (coreOf m) (askedBy (m .ledger .books) slots task))) (o .1) (t .none) in

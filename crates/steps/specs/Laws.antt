@@ -1,6 +1,6 @@
--- The laws of a machine's step, over any machine handed in and any record: exactly when it is refused and what it then leaves; what else it answers and leaves.
+-- The laws of a machine's step, over any machine handed in and any record: exactly when it is refused and what it then leaves; what else it answers and leaves; that it makes no malformed state.
 use mathlib.Core.Path.{_≡_}
-use mathlib.Core.Bool.{true}
+use mathlib.Core.Bool.{true, false}
 use mathlib.Core.List.{List, [], _∷_, _++_}
 use mathlib.Core.Logic.{_↔_}
 use lib.ListN.{length}
@@ -63,6 +63,10 @@ recordRows m (D.Refused why) = (true, Why.BadRecord) ∷ []
 abbrev pub everyRow : Machine → Decoded → List (Row Reason)
 everyRow m d = (malformed (coreOf m) (length (m .ledger .threads)), Why.Malformed) ∷ recordRows m d
 
+-- a state that is not malformed
+abbrev pub Whole : Machine → Type 0
+Whole m = malformed (coreOf m) (length (m .ledger .threads)) ≡ false
+
 -- a record that samples and then changes the ledger
 abbrev pub Operates : Record → Gaps → Type 0
 Operates r g = (op : Operation) × (taskOf r ≡ T.Sample g (W.Operate op))
@@ -92,3 +96,7 @@ module _ (step : Machine → Decoded → Stepped) where
   -- every accepted record answers and leaves what 01 says
   abbrev pub EveryAnswer : Type 0
   EveryAnswer = (m : Machine) (r : Record) (answered : Values) → step m (D.Accepted r) .outcome ≡ O.Accepted answered → (answered ≡ answerTo m r) × (step m (D.Accepted r) .machine ≡ leftBy m r)
+
+  -- no record, accepted or refused, makes a state malformed that was not
+  abbrev pub StaysWhole : Type 0
+  StaysWhole = (m : Machine) (d : Decoded) → Whole m → Whole (step m d .machine)

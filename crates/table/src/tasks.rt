@@ -70,7 +70,7 @@ fn gaps_sum(gaps: Gaps) -> u64
     gaps.p as u64 + gaps.q as u64 + gaps.r as u64
 }
 
-fn asks_nothing() -> Asked
+pub fn asks_nothing() -> Asked
     ensures { λ r. ⌜ r ≡ asksNothing ⌝ }
 {
     Asked {
@@ -83,7 +83,7 @@ fn asks_nothing() -> Asked
     }
 }
 
-fn asks_cycles(cycles: u64) -> Asked
+pub fn asks_cycles(cycles: u64) -> Asked
     ensures { λ r. ⌜ r ≡ asksCycles cycles ⌝ }
 {
     let mut asked = asks_nothing();
@@ -110,7 +110,7 @@ fn asks_operation(books: Books, slots: usize, operation: Operation, gaps: Gaps) 
     asked
 }
 
-fn asks_then(books: Books, slots: usize, gaps: Gaps, then: Then) -> Asked
+pub fn asks_then(books: Books, slots: usize, gaps: Gaps, then: Then) -> Asked
     ensures { λ r. ⌜ r ≡ askedBy books slots (T.Sample gaps then) ⌝ }
 {
     match then {
@@ -119,7 +119,7 @@ fn asks_then(books: Books, slots: usize, gaps: Gaps, then: Then) -> Asked
     }
 }
 
-fn asks_report(slots: usize, thread: u32) -> Asked
+pub fn asks_report(slots: usize, thread: u32) -> Asked
     ensures { λ r. ⌜ r ≡ asksReport slots thread ⌝ }
 {
     let k = thread as usize;
@@ -129,7 +129,7 @@ fn asks_report(slots: usize, thread: u32) -> Asked
 }
 
 // No bytes decode to a bad setup, but one can be handed in.
-fn asks_setup(setup: Setup) -> Asked
+pub fn asks_setup(setup: Setup) -> Asked
     ensures { λ r. ⌜ r ≡ asksSetup setup ⌝ }
 {
     let good = counter::good_period(setup.period);
@@ -137,16 +137,4 @@ fn asks_setup(setup: Setup) -> Asked
     asked.setup = true;
     asked.bad = !(good & (setup.tick != 0));
     asked
-}
-
-pub fn asked_by(books: Books, slots: usize, task: Task) -> Asked
-    ensures { λ r. ⌜ r ≡ askedBy books slots task ⌝ }
-{
-    match task {
-        Task::Run(p) => asks_cycles(p as u64),
-        Task::Sample(gaps, then) => asks_then(books, slots, gaps, then),
-        Task::Announce => asks_nothing(),
-        Task::Report(thread) => asks_report(slots, thread),
-        Task::Setup(setup) => asks_setup(setup),
-    }
 }

@@ -6,7 +6,7 @@ use mathlib.Core.List.{List, _++_}
 use native.Mathlib.Omega.{arith}
 use native.Mathlib.Nat.{zero-add}
 use lib.ListN.{length}
-use lib.IntN.{ℤ}
+use lib.IntN.{ℤ, pos}
 use lib.Dec.{ltb, leb}
 use borrow.Author.Tests.{eq-eqb, ne-eqb, lt-ltb, le-ltb, ltb-true, ltb-false, leb-true}
 use Rattle.error.specs.declared.Refusal.{Refusal}
@@ -14,6 +14,7 @@ use Rattle.error.specs.declared.Refusal.the-variants.{NoSpace, Overflow}
 use Rattle.error.specs.Numbers.{max64}
 use Rattle.machine.specs.declared.Machine.{Machine}
 use Rattle.table.specs.declared.Outcome.{Outcome}
+use Rattle.table.specs.declared.Outcome.the-variants as O
 use Rattle.table.specs.Says.{outcomeSays}
 use Rattle.machine.specs.Step.{freshMachine}
 use Rattle.lines.specs.declared.Written.{Written}
@@ -21,12 +22,12 @@ use Rattle.lines.specs.declared.Written.the-variants as W
 use Rattle.transcript.specs.declared.Part.{Part}
 use Rattle.transcript.specs.declared.Replayed.{Replayed}
 use Rattle.lines.specs.Says.{writtenSays}
-use Rattle.lines.specs.Text.{lineText, endText, tailText, inputText, fits, putOf, writtenOf, lineRoom}
+use Rattle.lines.specs.Text.{lineText, endText, tailText, inputText, fits, putOf, writtenOf, roomyPut, roomyWritten, lineRoom}
 use Rattle.lines.specs.Writing.{Put}
 use Rattle.transcript.specs.Room.{Replays}
 use Rattle.transcript.specs.Replay.{machineAfter, outcomeText, wholeRecords, linesFrom, partRefused, partOf, partBuffer, lastRoom, mostBytes, lastText, lastOf, textFrom, traceText, roomFor, replayOf, replayedOf}
 use Rattle.lines.proofs.Stores.{then}
-use Rattle.lines.proofs.Whole.{accepted, put, refused, kept, put-length}
+use Rattle.lines.proofs.Whole.{accepted, put, refused, kept, roomy, put-length}
 
 -- a text that was written where it fits
 pub stands : (buffer : List ℕ) (at : ℕ) (text : List ℕ) {now : List ℕ} {written : Written} {end : ℕ} → at + length text ≤ length buffer → written ≡ writtenOf buffer at text → now ≡ putOf buffer at text → end ≡ writtenSays written .value → Put buffer now at end text
@@ -39,6 +40,14 @@ unfolding outcomeText
 line-stands number o {buffer = buffer} {at = at} ec ex ey short room ew en ee =
     let line = stands buffer at _ (omega arith) ew en ee in
     (rw (← ec, ← ex, ← ey) line, let next = line .next in omega arith)
+
+-- an accepted step's line, put where the longest has room
+pub told-stands : (number x y : ℕ) {buffer now : List ℕ} {at end : ℕ} {written : Written} → length (lineText number (pos 0) x y) ≤ lineRoom → at + lineRoom ≤ length buffer → written ≡ roomyWritten buffer at (lineText number (pos 0) x y) → now ≡ roomyPut buffer at (lineText number (pos 0) x y) → end ≡ writtenSays written .value → Put buffer now at end (outcomeText number (O.Accepted (record { x = x; y = y }))) × (end ≤ at + lineRoom)
+unfolding outcomeText outcomeSays writtenSays
+told-stands number x y {buffer = buffer} {now = now} {at = at} {end = end} short room ew en ee =
+    let there = roomy buffer at (lineText number (pos 0) x y) room in
+    let line : Put buffer now at end (lineText number (pos 0) x y) = record { next = rw (ee, ew, there .0) refl; bytes = en ∙ there .1 } in
+    (line, let next = line .next in omega arith)
 
 -- the place that is answered is within the buffer
 pub accepted-within : {end room : ℕ} → end ≤ room → writtenSays (W.Accepted end) .value ≤ room

@@ -1,14 +1,25 @@
 -- What the private workers ask of their caller, and what the records' lines leave.
 use Prim.Native.Nat.{ℕ, _+_, _*_, _/_, _≤_}
 use mathlib.Core.Path.{_≡_}
+use mathlib.Core.Bool.{Bool, cond}
 use mathlib.Core.List.{List}
 use lib.ListN.{length}
 use lib.Seq.{sets}
 use Rattle.error.specs.Numbers.{max64}
+use Rattle.trace.specs.declared.Decoded.{Decoded}
+use Rattle.table.specs.declared.Core.{Core}
+use Rattle.table.specs.declared.Reason.the-variants as Why
 use Rattle.machine.specs.declared.Machine.{Machine}
+use Rattle.changes.specs.declared.Change.{Change}
+use Rattle.changes.specs.declared.Change.the-variants as X
+use Rattle.changes.specs.Change.{changeOf}
 use Rattle.transcript.specs.declared.Replayed.{Replayed}
 use Rattle.transcript.specs.Replay.{recordsFrom, machineAfter, linesFrom, lastRoom, mostBytes}
 use Rattle.lines.specs.Text.{lineRoom}
+
+-- what a record changes of a state that may be malformed
+unfoldable pub changeUnless : Bool → Core → ℕ → Decoded → Change
+changeUnless broken c slots d = cond broken (X.Refused Why.Malformed) (changeOf c slots d)
 
 -- the numbers fit, and so do the longest lines
 pub record HasRoom (first count : ℕ) (out : List ℕ) (at : ℕ) : Type 0 where

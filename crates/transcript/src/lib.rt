@@ -4,13 +4,17 @@ ghost use mathlib.Core.Bool.{cond};
 ghost use Prim.Native.Nat.{_+_, _*_, _≤_};
 ghost use lib.ListN.{length};
 ghost use lib.Dec.{ltb};
-ghost use Rattle.machine.specs.Step.{machineOf, freshMachine};
+ghost use Rattle.trace.specs.Decode.{decodeOf};
+ghost use Rattle.table.specs.declared.Outcome.the-variants as O;
+ghost use Rattle.machine.specs.Step.{accepted, machineOf, freshMachine};
 ghost use Rattle.lines.specs.Says.{writtenSays};
 ghost use Rattle.lines.specs.Text.{lineRoom};
 ghost use Rattle.lines.specs.Writing.{Put};
-ghost use Rattle.transcript.specs.Room.{HasRoom, Replays, Fits};
+ghost use Rattle.transcript.specs.Room.{changeUnless, HasRoom, Replays, Fits};
 ghost use Rattle.transcript.specs.Replay.{outcomeText, partRefused, partOf, partBuffer, lastRoom, lastText, textFrom, roomFor, replayOf, replayedOf};
 use books::Books;
+use books::Entered;
+use changes::Change;
 use clock::Clock;
 use clock::Timer;
 use counter::Counter;
@@ -18,14 +22,15 @@ use error::Refusal;
 use ledger::Ledger;
 use lines::LINE_ROOM;
 use lines::Written;
+use lines::put_accepted;
 use lines::put_end;
 use lines::put_input;
 use lines::put_line;
 use lines::put_tail;
 use machine::Machine;
-use machine::Next;
 use table::Core;
-use table::Outcome;
+use table::Reason;
+use table::malformed;
 use units::Cycles;
 use usage::ThreadUsage;
 
@@ -51,16 +56,35 @@ struct Replayed {
 }
 
 // A record's line. Room was asked for before the first one, so that each is written.
-fn put_outcome(out: &mut [u8], at: usize, number: u64, outcome: Outcome) -> usize
+fn put_refused(out: &mut [u8], at: usize, number: u64, why: Reason) -> usize
     requires { ⌜ at + lineRoom ≤ length (now out) ⌝ }
-    ensures text { λ r. ⌜ Put (now (out .entry)) (now (out .exit)) at r (outcomeText number outcome) ⌝ }
+    ensures text { λ r. ⌜ Put (now (out .entry)) (now (out .exit)) at r (outcomeText number (O.Refused why)) ⌝ }
     ensures room { λ r. ⌜ r ≤ at + lineRoom ⌝ }
 {
-    let written = put_line(out, at, number, outcome.number(), outcome.x(), outcome.y());
-    written.end()
+    let code = why.refusal().number();
+    put_line(out, at, number, code, 0, 0).end()
 }
 
-// The lines of so many records. The thread records stay in one table, of which a step gets and gives back at most one.
+fn put_told(out: &mut [u8], at: usize, number: u64, x: u64, y: u64) -> usize
+    requires { ⌜ at + lineRoom ≤ length (now out) ⌝ }
+    ensures text { λ r. ⌜ Put (now (out .entry)) (now (out .exit)) at r (outcomeText number (accepted x y)) ⌝ }
+    ensures room { λ r. ⌜ r ≤ at + lineRoom ⌝ }
+{
+    put_accepted(out, at, number, x, y).end()
+}
+
+// A malformed state turns every record away, and stays as it is.
+fn change_unless(broken: bool, core: Core, trace: &[u8], from: usize) -> Change
+    ensures { λ r. do ⌜ r ≡ changeUnless broken core (← ⟦ThreadUsage::SLOTS⟧ .entry) (decodeOf (now (trace .entry)) from) ⌝ }
+{
+    if broken {
+        return Change::Refused(Reason::Malformed);
+    }
+    changes::change_at(core, ThreadUsage::SLOTS, trace, from)
+}
+
+// The lines of so many records. The state stays in place, and each record writes only what it changes of it. Whether it
+// is malformed is asked once, since no record makes it so.
 fn put_records(
     machine: Machine,
     first: u64,
@@ -73,39 +97,72 @@ fn put_records(
     ensures { λ r. ⌜ Replays machine first count (now (trace .entry)) (now (out .entry)) (now (out .exit)) at r ⌝ }
 {
     let mut core = core_afresh(machine.core());
+    let broken = malformed(core, ThreadUsage::SLOTS);
     let mut threads = machine.ledger.threads;
     let mut number = first;
     let mut left = count;
     let mut from: usize = 0;
     let mut end = at;
     while 0 < left {
-        let begun = machine::begin_at(core, ThreadUsage::SLOTS, trace, from);
         let line = number;
+        let place = from;
         number = number + 1;
         from = from + 16;
         left = left - 1;
-        let next = begun.next;
-        // Most records concern no thread's record.
-        if let Next::Done(outcome) = next {
-            let after = begun.core;
-            core = core_afresh(after);
-            end = put_outcome(out, end, line, outcome);
-            continue;
+        let change = change_unless(broken, core, trace, place);
+        match change {
+            Change::Refused(why) => {
+                end = put_refused(out, end, line, why);
+            }
+            Change::Ran(counter) => {
+                let clock = core.timer.clock;
+                let after = timer_of(counter, clock);
+                core.timer = after;
+                end = put_told(out, end, line, 0, 0);
+            }
+            Change::Told(timer, told) => {
+                let after = timer_afresh(timer);
+                core.timer = after;
+                end = put_told(out, end, line, told.x, told.y);
+            }
+            Change::Enter(timer, operation, reading) => {
+                let after = timer_afresh(timer);
+                core.timer = after;
+                let books = core.books;
+                let k = machine::slot(books::concerned(books, operation), ThreadUsage::SLOTS);
+                let usage = threads[k];
+                let entered = books::enter(books, usage, reading, operation);
+                match entered {
+                    Entered::Accepted(entry) => {
+                        let booked = books_afresh(entry.books);
+                        let changed = usage_afresh(entry.usage);
+                        core.books = booked;
+                        threads[k] = changed;
+                        end = put_told(out, end, line, entry.cycles as u64, 0);
+                    }
+                    Entered::Refused(_) => {
+                        end = put_refused(out, end, line, Reason::WontFit);
+                    }
+                }
+            }
+            Change::Report(thread) => {
+                let k = machine::slot(thread, ThreadUsage::SLOTS);
+                let usage = threads[k];
+                let told = machine::ending::reported(usage);
+                end = put_told(out, end, line, told.x, told.y);
+            }
+            Change::Fresh(timer) => {
+                let after = timer_afresh(timer);
+                let books = books::nothing_booked();
+                core = Core {
+                    ready: true,
+                    timer: after,
+                    books: books,
+                };
+                threads = [ThreadUsage::new_idle(); ThreadUsage::SLOTS];
+                end = put_told(out, end, line, 0, 0);
+            }
         }
-        let k = machine::place(begun, ThreadUsage::SLOTS);
-        let usage = threads[k];
-        let stepped = machine::finish(begun, usage);
-        let after = stepped.core;
-        core = core_afresh(after);
-        let outcome = stepped.outcome;
-        end = put_outcome(out, end, line, outcome);
-        // Just set up: no record goes back, since all are fresh ones.
-        if stepped.fresh {
-            threads = [ThreadUsage::new_idle(); ThreadUsage::SLOTS];
-            continue;
-        }
-        let changed = usage_afresh(stepped.usage);
-        threads[k] = changed;
     }
     Replayed {
         end: end,
@@ -113,8 +170,8 @@ fn put_records(
     }
 }
 
-// A thread's record and the core, put together from their numbers. A copy would take along the unused bytes between
-// them, from record to record.
+// Parts of the state, put together from their numbers. A copy would take along the unused bytes between them, from
+// record to record.
 fn usage_afresh(usage: ThreadUsage) -> ThreadUsage
     ensures { λ r. ⌜ r ≡ usage ⌝ }
 {
@@ -125,34 +182,53 @@ fn usage_afresh(usage: ThreadUsage) -> ThreadUsage
     }
 }
 
+fn timer_of(counter: Counter, clock: Clock) -> Timer
+    ensures { λ r. ⌜ r ≡ record { counter = counter; clock = clock } ⌝ }
+{
+    Timer {
+        counter: Counter {
+            period: counter.period,
+            value: counter.value,
+            flag: counter.flag,
+            cycles: Cycles(counter.cycles.0),
+        },
+        clock: Clock {
+            tick: clock.tick,
+            count: Cycles(clock.count.0),
+            announced: Cycles(clock.announced.0),
+            overflow: clock.overflow,
+            last: Cycles(clock.last.0),
+        },
+    }
+}
+
+fn timer_afresh(timer: Timer) -> Timer
+    ensures { λ r. ⌜ r ≡ timer ⌝ }
+{
+    let counter = timer.counter;
+    let clock = timer.clock;
+    timer_of(counter, clock)
+}
+
+fn books_afresh(books: Books) -> Books
+    ensures { λ r. ⌜ r ≡ books ⌝ }
+{
+    Books {
+        stamp: books.stamp,
+        running: books.running,
+        total: Cycles(books.total.0),
+    }
+}
+
 fn core_afresh(core: Core) -> Core
     ensures { λ r. ⌜ r ≡ core ⌝ }
 {
-    let counter = core.timer.counter;
-    let clock = core.timer.clock;
+    let timer = core.timer;
     let books = core.books;
     Core {
         ready: core.ready,
-        timer: Timer {
-            counter: Counter {
-                period: counter.period,
-                value: counter.value,
-                flag: counter.flag,
-                cycles: Cycles(counter.cycles.0),
-            },
-            clock: Clock {
-                tick: clock.tick,
-                count: Cycles(clock.count.0),
-                announced: Cycles(clock.announced.0),
-                overflow: clock.overflow,
-                last: Cycles(clock.last.0),
-            },
-        },
-        books: Books {
-            stamp: books.stamp,
-            running: books.running,
-            total: Cycles(books.total.0),
-        },
+        timer: timer_afresh(timer),
+        books: books_afresh(books),
     }
 }
 

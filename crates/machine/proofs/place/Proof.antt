@@ -1,5 +1,4 @@
--- `place` is inside a table of any size but none.
-use borrow.Author.Tests.{lt-ltb, le-ltb}
+-- `place` is the slot of the thread that a step concerns.
 use Rattle.machine.specs.Step.{placeOf}
 use borrow.Author.Needs.{needs}
 use Rattle.machine.proofs.place.Statement.{statement}
@@ -7,11 +6,7 @@ use Rattle.machine.proofs.place.Tie as tie
 
 returns : tie.Need-returns
 unfolding placeOf
-returns c = simp (← c .before .next-thread .ensures, lt-ltb _ _ (c .if1 .taken))
-
-returns-2 : tie.Need-returns-2
-unfolding placeOf
-returns-2 c = simp (← c .before .next-thread .ensures, le-ltb _ _ (c .if1 .left))
+returns c = simp (← c .before .next-thread .ensures) (c .slot .ensures)
 
 pub place-spec : {M : Type 1} → statement M
-place-spec = tie.close (tie.spec (λ c κs. search needs) (λ c. search needs) returns returns-2)
+place-spec = tie.close (tie.spec (λ c κs. search needs) (λ c κs. search needs) returns)

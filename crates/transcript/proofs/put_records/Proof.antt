@@ -1,55 +1,111 @@
 -- `put_records` puts a line a turn, and what is left would finish the text.
 use Prim.Native.Nat.{_+_, _*_}
-use mathlib.Core.Path.{refl, sym, _∙_}
+use mathlib.Core.Path.{refl, sym, ap, _∙_}
 use native.Mathlib.Omega.{arith}
 use lib.ListN.{length, length-map, length-set}
+use Rattle.trace.specs.Decode.{decodeOf}
+use Rattle.table.specs.Table.{malformed}
 use Rattle.machine.specs.Step.{machineOf}
-use Rattle.machine.proofs.Outcomes.{within}
-use Rattle.transcript.specs.Replay.{recordsFrom}
+use Rattle.machine.proofs.Outcomes.{slot-within}
 use Rattle.lines.specs.Text.{lineRoom}
-use Rattle.transcript.proofs.Replaying.{Going, goes-on, at-once, all-fresh, one-stored, ended}
+use Rattle.transcript.specs.Replay.{recordsFrom}
+use Rattle.transcript.proofs.Replaying.{Going, Turn, goes-on, refused, ran, told, entered, not-entered, reported, all-fresh, ended}
 use borrow.Author.Needs.{needs}
 use Rattle.transcript.proofs.put_records.Statement.{statement}
 use Rattle.transcript.proofs.put_records.Tie as tie
 
 abbrev Inv-loop : tie.InvT-loop
-Inv-loop first count trace out₀ at core₀ threads₀ number₀ left₀ from₀ end₀ out core threads number left from end = Going (machineOf core₀ threads₀) number₀ (recordsFrom left₀ trace from₀) (length threads₀) trace out₀ at (at + left₀ * lineRoom) out (machineOf core threads) number left from end
+Inv-loop first count trace out₀ at core₀ broken threads₀ number₀ left₀ from₀ end₀ out core threads number left from end =
+    Going (machineOf core₀ threads₀) number₀ (recordsFrom left₀ trace from₀) (length threads₀) broken trace out₀ at (at + left₀ * lineRoom) out (machineOf core threads) number left from end
 
 abbrev μ-loop : tie.MeasureT-loop
-μ-loop first count trace out₀ at core₀ threads₀ number₀ left₀ from₀ end₀ out core threads number left from end = left
+μ-loop first count trace out₀ at core₀ broken threads₀ number₀ left₀ from₀ end₀ out core threads number left from end =
+    left
+
+-- the array has as many records as there are slots
+abbrev turn : (c : tie.After-change-unless Inv-loop μ-loop) → Turn (c .before .before .loop .core) (c .before .before .loop .threads) (decodeOf (c .before .before .before .before .before .before .before .before .before .args .trace .now) (c .before .before .loop .from)) (c .change-unless .result)
+turn c =
+    let l = c .before .before .loop in
+    let n = simp length-map at (c .before .before .before .before .before .before .before .before .before .good .0 .1 .1 .1 .1 .0 .1 .1 .1 .0 .1 .0 .1) in
+    record { slots = _; broken = _; table = l .inv .table ∙ n; form = sym (ap (malformed (l .core)) n) ∙ l .inv .form; made = c .change-unless .ensures }
 
 loop-holds : tie.Need-loop-holds Inv-loop μ-loop
-loop-holds c = let pre = c .before .before .before .before .before .pre in record { machine = refl; place = refl; bytes = refl; kept = refl; table = refl; numbers = omega arith; records = omega arith; room = omega arith; enough = omega arith }
+loop-holds c = let pre = c .before .before .before .before .before .before .pre in let n = simp length-map at (c .before .before .before .before .before .before .good .0 .1 .1 .1 .1 .0 .1 .1 .1 .0 .1 .0 .1) in record { machine = refl; place = refl; bytes = refl; kept = refl; table = refl; form = ap (malformed (c .before .before .core-afresh .result)) n ∙ sym (c .before .malformed .ensures); numbers = omega arith; records = omega arith; room = omega arith; enough = omega arith }
 
 add-number : tie.Need-add-number Inv-loop μ-loop
-add-number c = let h = c .before .before .loop .inv in omega arith
+add-number c = let h = c .before .loop .inv in omega arith
 
 add-from : tie.Need-add-from Inv-loop μ-loop
-add-from c = let h = c .before .before .loop .inv in omega arith
+add-from c = let h = c .before .loop .inv in omega arith
 
-put-outcome-requires : tie.Need-put-outcome-requires Inv-loop μ-loop
-put-outcome-requires c κs = let h = c .before .before .before .before .before .before .before .before .loop .inv in omega arith
+put-refused-requires : tie.Need-put-refused-requires Inv-loop μ-loop
+put-refused-requires c κs = let h = c .before .before .before .before .before .before .loop .inv in omega arith
 
 loop-again : tie.Need-loop-again Inv-loop μ-loop
-loop-again c = let l = c .before .before .before .before .before .before .before .before .before .before .before .loop in let n = simp length-map at (c .before .before .before .before .before .before .before .before .before .before .before .before .before .before .before .before .before .good .0 .1 .1 .1 .1 .0 .1 .1 .1 .0 .1 .0 .1) in goes-on (l .inv) (c .before .before .before .before .before .before .before .before .before .before .loop-test .taken) (at-once (l .core) (l .threads) _ (l .inv .table ∙ n) (c .before .before .before .before .before .before .before .before .before .begin-at .ensures) (c .before .before .before .before .before .before .before .next .given .1) (c .before .before .before .before .core-afresh2 .ensures)) (c .before .before .put-outcome .ensures .0) (c .before .before .put-outcome .ensures .1) (l .inv .table)
+loop-again c = let l = c .before .before .before .before .before .before .before .before .before .loop in goes-on (l .inv) (c .before .before .before .before .before .before .before .before .loop-test .taken) (refused (turn (c .before .before .before .before .before .before .before)) (c .before .before .before .before .before .change .given .1)) (c .before .before .put-refused .ensures .0) (c .before .before .put-refused .ensures .1) (l .inv .table)
 
-mul-usage : tie.Need-mul-usage Inv-loop μ-loop
-mul-usage c = let h = within _ (c .place .ensures) (omega arith) in omega arith
-
-put-outcome-requires-2 : tie.Need-put-outcome-requires-2 Inv-loop μ-loop
-put-outcome-requires-2 c κs = let h = c .before .before .before .before .before .before .before .before .before .loop .inv in omega arith
+put-told-requires : tie.Need-put-told-requires Inv-loop μ-loop
+put-told-requires c κs = let h = c .before .before .before .before .before .before .before .before .loop .inv in omega arith
 
 loop-again-2 : tie.Need-loop-again-2 Inv-loop μ-loop
-loop-again-2 c = let l = c .before .before .before .before .before .before .before .before .before .before .before .before .before .before .loop in let n = simp length-map at (c .before .before .before .before .before .before .before .before .before .before .before .before .before .before .before .before .before .before .before .before .good .0 .1 .1 .1 .1 .0 .1 .1 .1 .0 .1 .0 .1) in goes-on (l .inv) (c .before .before .before .before .before .before .before .before .before .before .before .before .before .loop-test .taken) (all-fresh (l .core) (l .threads) _ (l .inv .table ∙ n) (c .before .before .before .before .before .before .before .before .before .before .before .before .begin-at .ensures) (c .before .before .before .before .before .before .before .before .before .before .place .ensures) (c .before .before .before .before .before .before .before .before .finish .ensures) (c .before .before .before .before .before .before .core-afresh3 .ensures) (c .before .if1 .taken) (c .new-idle .ensures)) (c .before .before .before .before .put-outcome2 .ensures .0) (c .before .before .before .before .put-outcome2 .ensures .1) (sym n)
+loop-again-2 c = let l = c .before .before .before .before .before .before .before .before .before .before .before .loop in goes-on (l .inv) (c .before .before .before .before .before .before .before .before .before .before .loop-test .taken) (ran (turn (c .before .before .before .before .before .before .before .before .before)) (c .before .before .before .before .before .before .before .change2 .given .1) (c .before .before .before .before .timer-of .ensures)) (c .before .before .put-told .ensures .0) (c .before .before .put-told .ensures .1) (l .inv .table)
 
-mul-threads : tie.Need-mul-threads Inv-loop μ-loop
-mul-threads c = let h = within _ (c .before .before .before .before .before .before .before .before .before .before .place .ensures) (omega arith) in omega arith
+put-told-requires-2 : tie.Need-put-told-requires-2 Inv-loop μ-loop
+put-told-requires-2 c κs = let h = c .before .before .before .before .before .before .before .loop .inv in omega arith
 
 loop-again-3 : tie.Need-loop-again-3 Inv-loop μ-loop
-loop-again-3 c = let l = c .before .before .before .before .before .before .before .before .before .before .before .before .before .before .loop in let n = simp length-map at (c .before .before .before .before .before .before .before .before .before .before .before .before .before .before .before .before .before .before .before .before .good .0 .1 .1 .1 .1 .0 .1 .1 .1 .0 .1 .0 .1) in goes-on (l .inv) (c .before .before .before .before .before .before .before .before .before .before .before .before .before .loop-test .taken) (one-stored (l .core) (l .threads) _ (l .inv .table ∙ n) (c .before .before .before .before .before .before .before .before .before .before .before .before .begin-at .ensures) (c .before .before .before .before .before .before .before .before .before .before .place .ensures) (c .before .before .before .before .before .before .before .before .finish .ensures) (c .before .before .before .before .before .before .core-afresh3 .ensures) (c .before .if1 .left) (c .usage-afresh .ensures)) (c .before .before .before .before .put-outcome2 .ensures .0) (c .before .before .before .before .put-outcome2 .ensures .1) (length-set (l .threads) (c .before .before .before .before .before .before .before .before .before .before .place .result) (c .usage-afresh .result) ∙ l .inv .table)
+loop-again-3 c = let l = c .before .before .before .before .before .before .before .before .before .before .loop in goes-on (l .inv) (c .before .before .before .before .before .before .before .before .before .loop-test .taken) (told (turn (c .before .before .before .before .before .before .before .before)) (c .before .before .before .before .before .before .change3 .given .1) (c .before .before .before .before .timer-afresh .ensures)) (c .before .before .put-told2 .ensures .0) (c .before .before .put-told2 .ensures .1) (l .inv .table)
+
+mul-usage : tie.Need-mul-usage Inv-loop μ-loop
+mul-usage c = let h = slot-within _ (c .slot .ensures) (omega arith) in omega arith
+
+array-copy-out-usage : tie.Need-array-copy-out-usage Inv-loop μ-loop
+array-copy-out-usage c = slot-within _ (c .slot .ensures) (omega arith)
+
+mul-threads : tie.Need-mul-threads Inv-loop μ-loop
+mul-threads c = let h = slot-within _ (c .before .before .before .before .before .before .before .slot .ensures) (omega arith) in omega arith
+
+array-set-from-threads : tie.Need-array-set-from-threads Inv-loop μ-loop
+array-set-from-threads c = slot-within _ (c .before .before .before .before .before .before .before .slot .ensures) (omega arith)
+
+put-told-requires-3 : tie.Need-put-told-requires-3 Inv-loop μ-loop
+put-told-requires-3 c κs = let room = c .before .before .before .before .before .before .before .before .before .before .before .before .before .before .before .before .before .before .loop .inv .room in let enough = c .before .before .before .before .before .before .before .before .before .before .before .before .before .before .before .before .before .before .loop .inv .enough in let some = c .before .before .before .before .before .before .before .before .before .before .before .before .before .before .before .before .before .loop-test .taken in omega arith
+
+loop-less-4 : tie.Need-loop-less-4 Inv-loop μ-loop
+loop-less-4 c = let some = c .before .before .before .before .before .before .before .before .before .before .before .before .before .before .before .before .before .before .before .before .loop-test .taken in omega arith
+
+loop-again-4 : tie.Need-loop-again-4 Inv-loop μ-loop
+loop-again-4 c = let l = c .before .before .before .before .before .before .before .before .before .before .before .before .before .before .before .before .before .before .before .before .before .loop in goes-on (l .inv) (c .before .before .before .before .before .before .before .before .before .before .before .before .before .before .before .before .before .before .before .before .loop-test .taken) (entered (turn (c .before .before .before .before .before .before .before .before .before .before .before .before .before .before .before .before .before .before .before)) (c .before .before .before .before .before .before .before .before .before .before .before .before .before .before .before .before .before .change4 .given .1) (c .before .before .before .before .before .before .before .before .before .before .before .before .before .before .before .timer-afresh2 .ensures) (c .before .before .before .before .before .before .before .before .before .before .before .before .before .concerned .ensures) (c .before .before .before .before .before .before .before .before .before .before .before .before .slot .ensures) (c .before .before .before .before .before .before .before .before .before .before .enter .ensures) (c .before .before .before .before .before .before .before .before .entered .given .1) (c .before .before .before .before .before .before .books-afresh .ensures) (c .before .before .before .before .before .usage-afresh .ensures)) (c .before .before .put-told3 .ensures .0) (c .before .before .put-told3 .ensures .1) (length-set (l .threads) (c .before .before .before .before .before .before .before .before .before .before .before .before .slot .result) (c .before .before .before .before .before .usage-afresh .result) ∙ l .inv .table)
+
+put-refused-requires-2 : tie.Need-put-refused-requires-2 Inv-loop μ-loop
+put-refused-requires-2 c κs = let h = c .before .before .before .before .before .before .before .before .before .before .before .before .before .before .loop .inv in omega arith
+
+loop-again-5 : tie.Need-loop-again-5 Inv-loop μ-loop
+loop-again-5 c = let l = c .before .before .before .before .before .before .before .before .before .before .before .before .before .before .before .before .before .loop in goes-on (l .inv) (c .before .before .before .before .before .before .before .before .before .before .before .before .before .before .before .before .loop-test .taken) (not-entered (turn (c .before .before .before .before .before .before .before .before .before .before .before .before .before .before .before)) (c .before .before .before .before .before .before .before .before .before .before .before .before .before .change4 .given .1) (c .before .before .before .before .before .before .before .before .before .before .before .timer-afresh2 .ensures) (c .before .before .before .before .before .before .before .before .before .concerned .ensures) (c .before .before .before .before .before .before .before .before .slot .ensures) (c .before .before .before .before .before .before .enter .ensures) (c .before .before .before .before .enum-told .given .1)) (c .before .before .put-refused2 .ensures .0) (c .before .before .put-refused2 .ensures .1) (l .inv .table)
+
+mul-usage-2 : tie.Need-mul-usage-2 Inv-loop μ-loop
+mul-usage-2 c = let h = slot-within _ (c .slot2 .ensures) (omega arith) in omega arith
+
+array-copy-out-usage-2 : tie.Need-array-copy-out-usage-2 Inv-loop μ-loop
+array-copy-out-usage-2 c = slot-within _ (c .slot2 .ensures) (omega arith)
+
+put-told-requires-4 : tie.Need-put-told-requires-4 Inv-loop μ-loop
+put-told-requires-4 c κs = let h = c .before .before .before .before .before .before .before .before .before .loop .inv in omega arith
+
+loop-again-6 : tie.Need-loop-again-6 Inv-loop μ-loop
+loop-again-6 c = let l = c .before .before .before .before .before .before .before .before .before .before .before .before .loop in goes-on (l .inv) (c .before .before .before .before .before .before .before .before .before .before .before .loop-test .taken) (reported (turn (c .before .before .before .before .before .before .before .before .before .before)) (c .before .before .before .before .before .before .before .before .change5 .given .1) (c .before .before .before .before .before .before .slot2 .ensures) (c .before .before .before .before .reported .ensures)) (c .before .before .put-told4 .ensures .0) (c .before .before .put-told4 .ensures .1) (l .inv .table)
+
+put-told-requires-5 : tie.Need-put-told-requires-5 Inv-loop μ-loop
+put-told-requires-5 c κs = let h = c .before .before .before .before .before .before .before .before .before .loop .inv in omega arith
+
+loop-again-7 : tie.Need-loop-again-7 Inv-loop μ-loop
+loop-again-7 c = let l = c .before .before .before .before .before .before .before .before .before .before .before .before .loop in goes-on (l .inv) (c .before .before .before .before .before .before .before .before .before .before .before .loop-test .taken) (all-fresh (turn (c .before .before .before .before .before .before .before .before .before .before)) (turn (c .before .before .before .before .before .before .before .before .before .before) .table) (c .before .before .before .before .before .before .before .before .change6 .given .1) (c .before .before .before .before .before .before .timer-afresh3 .ensures) (c .before .before .before .before .before .nothing-booked .ensures) (c .before .before .before .before .new-idle .ensures)) (c .before .before .put-told5 .ensures .0) (c .before .before .put-told5 .ensures .1) (sym (turn (c .before .before .before .before .before .before .before .before .before .before) .table) ∙ l .inv .table)
+
+same-length : tie.Need-same-length Inv-loop μ-loop
+same-length c = c .before .before .loop .inv .kept
 
 returns : tie.Need-returns Inv-loop μ-loop
-returns c = rw (c .together .ensures) (ended (c .before .before .before .before .core-afresh .ensures ∙ c .before .before .before .before .before .core .ensures) (c .before .before .loop .inv) (c .before .loop-test .left))
+returns c = rw (c .together .ensures) (ended (c .before .before .before .before .before .core-afresh .ensures ∙ c .before .before .before .before .before .before .core .ensures) (c .before .before .loop .inv) (c .before .loop-test .left))
 
 pub put-records-spec : {M : Type 1} → statement M
-put-records-spec = tie.close (tie.spec Inv-loop μ-loop (λ c κs. search needs) (λ c κs. search needs) loop-holds (λ c κs. search needs) add-number add-from (λ c. omega arith) (λ c. search needs) (λ c κs. search needs) put-outcome-requires (λ c. omega arith) loop-again (λ c κs. search needs) mul-usage (λ c. within _ (c .place .ensures) (omega arith)) (λ c κs. search needs) (λ c κs. search needs) put-outcome-requires-2 (λ c κs. search needs) (λ c. omega arith) loop-again-2 (λ c κs. search needs) mul-threads (λ c. within _ (c .before .before .before .before .before .before .before .before .before .before .place .ensures) (omega arith)) (λ c. omega arith) loop-again-3 (λ c κs. search needs) (λ c. c .before .before .loop .inv .kept) returns)
+put-records-spec = tie.close (tie.spec Inv-loop μ-loop (λ c κs. search needs) (λ c κs. search needs) (λ c κs. search needs) loop-holds add-number add-from (λ c. search needs) (λ c κs. search needs) (λ c. search needs) put-refused-requires (λ c. omega arith) loop-again (λ c. search needs) (λ c κs. search needs) put-told-requires (λ c. omega arith) loop-again-2 (λ c. search needs) (λ c κs. search needs) put-told-requires-2 (λ c. omega arith) loop-again-3 (λ c. search needs) (λ c κs. search needs) (λ c κs. search needs) (λ c κs. search needs) mul-usage array-copy-out-usage (λ c κs. search needs) (λ c. search needs) (λ c κs. search needs) (λ c κs. search needs) mul-threads array-set-from-threads (λ c. search needs) put-told-requires-3 loop-less-4 loop-again-4 (λ c. search needs) put-refused-requires-2 (λ c. omega arith) loop-again-5 (λ c. search needs) (λ c κs. search needs) mul-usage-2 array-copy-out-usage-2 (λ c κs. search needs) put-told-requires-4 (λ c. omega arith) loop-again-6 (λ c. search needs) (λ c κs. search needs) (λ c κs. search needs) (λ c κs. search needs) put-told-requires-5 (λ c. omega arith) loop-again-7 (λ c κs. search needs) same-length returns)

@@ -1,0 +1,67 @@
+-- What a record changes of counter and clock: 01's table, and then the record's effect, for a state that was found whole.
+use Prim.Native.Nat.{ℕ}
+use mathlib.Core.Bool.{cond}
+use Rattle.error.specs.InOrder.{inOrder}
+use Rattle.counter.specs.declared.Ran.{Ran}
+use Rattle.counter.specs.declared.Ran.the-variants as R
+use Rattle.counter.specs.Entries.{ranOf}
+use Rattle.clock.specs.declared.SampleTaken.{SampleTaken}
+use Rattle.clock.specs.declared.Sampled.{Sampled}
+use Rattle.clock.specs.declared.Sampled.the-variants as S
+use Rattle.clock.specs.declared.Announced.{Announced}
+use Rattle.clock.specs.declared.Announced.the-variants as A
+use Rattle.clock.specs.declared.SetUp.{SetUp}
+use Rattle.clock.specs.declared.SetUp.the-variants as U
+use Rattle.clock.specs.Timer.{setUp}
+use Rattle.clock.specs.Sample.{sampleOf}
+use Rattle.clock.specs.Announce.{announceOf}
+use Rattle.trace.specs.declared.Decoded.{Decoded}
+use Rattle.trace.specs.declared.Decoded.the-variants as D
+use Rattle.table.specs.declared.Core.{Core}
+use Rattle.table.specs.declared.Reason.the-variants as Why
+use Rattle.table.specs.declared.tasks.Task.{Task}
+use Rattle.table.specs.declared.tasks.Task.the-variants as T
+use Rattle.table.specs.declared.tasks.Then.{Then}
+use Rattle.table.specs.declared.tasks.Then.the-variants as W
+use Rattle.table.specs.Task.{taskOf, askedBy}
+use Rattle.table.specs.Table.{table}
+use Rattle.changes.specs.declared.Change.{Change}
+use Rattle.changes.specs.declared.Change.the-variants as X
+
+-- what the table let through is turned away only in a malformed state
+unfoldable pub ranChange : Ran → Change
+ranChange (R.Accepted counter) = X.Ran counter
+ranChange (R.Refused why) = X.Refused Why.Malformed
+
+-- Sample: elapsed, wrap. Kinds 3 to 7 go on at its reading.
+abbrev pub thenChange : Then → SampleTaken → Change
+thenChange W.Tell taken = X.Told (taken .timer) (record { x = taken .elapsed; y = cond (taken .wrap) 1 0 })
+thenChange (W.Operate op) taken = X.Enter (taken .timer) op (taken .reading)
+
+unfoldable pub sampledChange : Then → Sampled → Change
+sampledChange then (S.Accepted taken) = thenChange then taken
+sampledChange then (S.Refused why) = X.Refused Why.Malformed
+
+-- Announce: dticks, announced. What the leaf refuses changes nothing.
+unfoldable pub announcedChange : Announced → Change
+announcedChange (A.Accepted a) = X.Told (a .timer) (record { x = a .dticks .0; y = a .timer .clock .announced .0 })
+announcedChange (A.Refused why) = X.Refused (Why.NotAnnounced why)
+
+unfoldable pub setUpChange : SetUp → Change
+setUpChange (U.Accepted timer) = X.Fresh timer
+setUpChange (U.Refused why) = X.Refused Why.BadRecord
+
+unfoldable pub effectChange : Core → Task → Change
+effectChange c (T.Run p) = ranChange (ranOf (c .timer .counter) p)
+effectChange c (T.Sample g then) = sampledChange then (sampleOf (c .timer) g)
+effectChange c T.Announce = announcedChange (announceOf (c .timer))
+effectChange c (T.Report i) = X.Report i
+effectChange c (T.Setup s) = setUpChange (setUp (s .period) (s .tick))
+
+-- 01's table, and then the effect
+unfoldable pub taskChange : Core → ℕ → Task → Change
+taskChange c slots task = inOrder (table c (askedBy (c .books) slots task)) X.Refused (effectChange c task)
+
+unfoldable pub changeOf : Core → ℕ → Decoded → Change
+changeOf c slots (D.Accepted r) = taskChange c slots (taskOf r)
+changeOf c slots (D.Refused why) = X.Refused Why.BadRecord

@@ -164,9 +164,13 @@ use Rattle.machine.proofs.step.Reads as machine-step
 use Rattle.machine.proofs.fresh.Reads as machine-fresh
 use Rattle.lines.proofs.Written.number.Reads as lines-Written-number
 use Rattle.lines.proofs.Written.end.Reads as lines-Written-end
+use Rattle.lines.proofs.label.Label.of.Reads as lines-Label-of
+use Rattle.lines.proofs.label.Label.next.Reads as lines-Label-next
 use Rattle.transcript.proofs.room_for.Reads as transcript-room-for
 use Rattle.lines.proofs.put_line.Reads as lines-put-line
-use Rattle.lines.proofs.put_accepted.Reads as lines-put-accepted
+use Rattle.lines.proofs.label.put_label.Reads as lines-put-label
+use Rattle.lines.proofs.put_values.Reads as lines-put-values
+use Rattle.lines.proofs.put_refusal.Reads as lines-put-refusal
 use Rattle.lines.proofs.put_end.Reads as lines-put-end
 use Rattle.lines.proofs.put_tail.Reads as lines-put-tail
 use Rattle.lines.proofs.put_input.Reads as lines-put-input
@@ -457,8 +461,12 @@ machine-outcomes = (
 pub lines-outcomes :
     OneOutcome lines-Written-number.Post ×
     OneOutcome lines-Written-end.Post ×
+    OneOutcome lines-Label-of.Post ×
+    OneOutcome lines-Label-next.Post ×
     OneOutcome transcript-room-for.Post
 lines-outcomes = (
+  once _,
+  once _,
   once _,
   once _,
   once _,
@@ -467,13 +475,17 @@ lines-outcomes = (
 -- the answer, and what the lent buffer holds
 pub lines-lent-outcomes :
     OneOutcomeLent (λ exit. exit .0 .now) lines-put-line.Post ×
-    OneOutcomeLent (λ exit. exit .0 .now) lines-put-accepted.Post ×
+    OneOutcomeLent (λ exit. exit .0 .now) lines-put-label.Post ×
+    OneOutcomeLent (λ exit. exit .0 .now) lines-put-values.Post ×
+    OneOutcomeLent (λ exit. exit .0 .now) lines-put-refusal.Post ×
     OneOutcomeLent (λ exit. exit .0 .now) lines-put-end.Post ×
     OneOutcomeLent (λ exit. exit .0 .now) lines-put-tail.Post ×
     OneOutcomeLent (λ exit. exit .0 .now) lines-put-input.Post ×
     OneOutcomeLent (λ exit. exit .1 .0 .now) transcript-replay.Post ×
     OneOutcomeLent (λ exit. exit .1 .1 .1 .0 .now) transcript-put-part.Post
 lines-lent-outcomes = (
+  once-lent (λ exit. exit .0 .now) _ _,
+  once-lent (λ exit. exit .0 .now) _ _,
   once-lent (λ exit. exit .0 .now) _ _,
   once-lent (λ exit. exit .0 .now) _ _,
   once-lent (λ exit. exit .0 .now) _ _,

@@ -1,5 +1,5 @@
 -- The digits of a number by its last one, two or four, and how many they are.
-use Prim.Native.Nat.{ℕ, zero, suc, _+_, _/_, _%_, _^_, _≤_, _<_}
+use Prim.Native.Nat.{ℕ, zero, suc, _+_, _-_, _*_, _/_, _%_, _^_, _≤_, _<_}
 use mathlib.Core.Path.{_≡_, refl, sym, ap, _∙_}
 use mathlib.Core.Bool.{Bool, true, false, cond}
 use mathlib.Core.List.{List, [], _∷_, _++_, append-assoc}
@@ -42,8 +42,19 @@ more (suc m) h =
 pub two-digits : (n : ℕ) → 10 ≤ n → n < 100 → decimal n ≡ two n
 two-digits n h k = more n h ∙ ap (λ (t : List ℕ). t ++ ((48 + n % 10) ∷ [])) (one (n / 10) (omega arith))
 
+-- both digits of a number below 100 from one product, which has the first in its low byte and the last in the high one
+module _ (n : ℕ) (h : n < 100) where
+  pair : 256 * n + 12336 - 2559 * (n * 103 / 1024) ≡ 256 * (48 + n % 10) + (48 + n / 10)
+  pair = let tens : n * 103 / 1024 ≡ n / 10 = omega arith in rw tens (omega arith)
+
+  pub first-digit : (256 * n + 12336 - 2559 * (n * 103 / 1024)) % 256 ≡ 48 + n / 10
+  first-digit = rw pair (omega arith)
+
+  pub last-digit : (256 * n + 12336 - 2559 * (n * 103 / 1024)) / 256 ≡ 48 + n % 10
+  last-digit = rw pair (omega arith)
+
 -- the last two digits apart
-by-two : (n : ℕ) → 100 ≤ n → decimal n ≡ decimal (n / 100) ++ two (n % 100)
+pub by-two : (n : ℕ) → 100 ≤ n → decimal n ≡ decimal (n / 100) ++ two (n % 100)
 by-two n h =
     let high : n / 10 / 10 ≡ n / 100 = omega arith in
     let tens : n / 10 % 10 ≡ n % 100 / 10 = omega arith in

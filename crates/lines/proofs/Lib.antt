@@ -8,3 +8,5 @@ pub mod Parts
 pub mod StepLine
 pub mod WordLine
 pub mod ReadsBack
+pub mod Named
+pub mod Labels

@@ -9,8 +9,11 @@ use lib.Signed.{mag}
 use mir.Syntax.{w32}
 use mir.Val.{SFits, toZ, ofZ}
 use mir.Facts.{toZ-ofZ}
-use Rattle.lines.specs.Text.{decimal, signed, lineText, endText, tailText, inputText, lineRoom, endRoom}
+use Rattle.lines.specs.Text.{decimal, signed, valuesText, lineText, endText, tailText, inputText, lineRoom, restRoom, endRoom}
 use Rattle.lines.proofs.Decimal.{size-most, size-64}
+
+pub values-size : (code : ℤ) (x y : ℕ) → length (valuesText code x y) ≡ length (signed code) + length (decimal x) + length (decimal y) + 3
+values-size code x y = simp length-append (omega arith)
 
 pub line-size : (number : ℕ) (code : ℤ) (x y : ℕ) → length (lineText number code x y) ≡ length (decimal number) + length (signed code) + length (decimal x) + length (decimal y) + 4
 unfolding lineText
@@ -36,13 +39,21 @@ code-held {code} h = rw (toZ-ofZ h) (code-most code (h .sfits))
 pub code-fits : (code : ℤ) → mag code < 2 ^ 31 → mag (toZ w32 (ofZ w32 code)) < 2 ^ 31
 code-fits code h = rw (toZ-ofZ {w = w32} (record { sfits = h })) h
 
+-- the most that follows a number: a code, two values of 20 digits, and the three bytes between and after them
+pub rest-room : (code : ℤ) (x y : ℕ) → mag code < 2 ^ 31 → x < 2 ^ 64 → y < 2 ^ 64 → length (valuesText code x y) ≤ restRoom
+rest-room code x y hc hx hy =
+    let a = code-most code hc in
+    let b = size-64 x hx in
+    let c = size-64 y hy in
+    omega (arith, values-size code x y)
+
+-- and with the number of 20 digits and its space, the longest line
 pub line-room : (number : ℕ) (code : ℤ) (x y : ℕ) → number < 2 ^ 64 → mag code < 2 ^ 31 → x < 2 ^ 64 → y < 2 ^ 64 → length (lineText number code x y) ≤ lineRoom
+unfolding lineText
 line-room number code x y hn hc hx hy =
     let a = size-64 number hn in
-    let b = code-most code hc in
-    let c = size-64 x hx in
-    let d = size-64 y hy in
-    omega (arith, line-size number code x y)
+    let b = rest-room code x y hc hx hy in
+    omega (arith, length-append (decimal number) (32 ∷ valuesText code x y))
 
 pub end-room : (cycles reading : ℕ) → cycles < 2 ^ 64 → reading < 2 ^ 64 → length (endText cycles reading) ≤ endRoom
 end-room cycles reading h k =

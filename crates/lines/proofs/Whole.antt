@@ -10,7 +10,7 @@ use lib.Dec.{ltb, leb}
 use borrow.Author.Tests.{le-leb, lt-leb, le-ltb, ltb-true}
 use Rattle.error.specs.declared.Refusal.the-variants.{NoSpace}
 use Rattle.lines.specs.declared.Written.the-variants as W
-use Rattle.lines.specs.Text.{fits, putOf, writtenOf, lineRoom, roomyPut, roomyWritten}
+use Rattle.lines.specs.Text.{fits, putOf, writtenOf, roomyPut, roomyWritten}
 use Rattle.lines.specs.Writing.{Put}
 
 module _ (buffer : List ℕ) (at : ℕ) (text : List ℕ) where
@@ -39,17 +39,17 @@ module _ (buffer : List ℕ) (at : ℕ) (text : List ℕ) where
   pub whole : {now : List ℕ} {end : ℕ} → at + length text ≤ length buffer → Put buffer now at end text → (W.Accepted end ≡ writtenOf buffer at text) × (now ≡ putOf buffer at text)
   whole h stands = (rw (stands .next) (sym (accepted h)), stands .bytes ∙ sym (put h))
 
-  -- the room of the longest line was asked for
-  pub not-roomy : {lacks : Bool} → lacks ≡ ltb (length buffer) (at + lineRoom) → lacks ≡ true → (W.Refused NoSpace ≡ roomyWritten buffer at text) × (buffer ≡ roomyPut buffer at text)
+  -- the room asked for is one that no such text is longer than, and nothing was counted
+  pub not-roomy : (room : ℕ) {lacks : Bool} → lacks ≡ ltb (length buffer) (at + room) → lacks ≡ true → (W.Refused NoSpace ≡ roomyWritten room buffer at text) × (buffer ≡ roomyPut room buffer at text)
   unfolding roomyWritten roomyPut
-  not-roomy asked e = rw (← asked, e) (refl, refl)
+  not-roomy room asked e = rw (← asked, e) (refl, refl)
 
-  pub roomy : at + lineRoom ≤ length buffer → (roomyWritten buffer at text ≡ W.Accepted (at + length text)) × (roomyPut buffer at text ≡ sets buffer at text)
+  pub roomy : (room : ℕ) → at + room ≤ length buffer → (roomyWritten room buffer at text ≡ W.Accepted (at + length text)) × (roomyPut room buffer at text ≡ sets buffer at text)
   unfolding roomyWritten roomyPut
-  roomy h = rw (le-ltb (length buffer) (at + lineRoom) h) (refl, refl)
+  roomy room h = rw (le-ltb (length buffer) (at + room) h) (refl, refl)
 
-  pub whole-roomy : {now : List ℕ} {end : ℕ} → at + lineRoom ≤ length buffer → Put buffer now at end text → (W.Accepted end ≡ roomyWritten buffer at text) × (now ≡ roomyPut buffer at text)
-  whole-roomy h stands = rw (roomy h .0, roomy h .1) (ap W.Accepted (stands .next), stands .bytes)
+  pub whole-roomy : (room : ℕ) {now : List ℕ} {end : ℕ} → at + room ≤ length buffer → Put buffer now at end text → (W.Accepted end ≡ roomyWritten room buffer at text) × (now ≡ roomyPut room buffer at text)
+  whole-roomy room h stands = rw (roomy room h .0, roomy room h .1) (ap W.Accepted (stands .next), stands .bytes)
 
   -- a buffer keeps its length, whatever is put
   pub put-length : length (putOf buffer at text) ≡ length buffer

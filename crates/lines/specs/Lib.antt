@@ -2,3 +2,4 @@ pub mod Text
 pub mod Says
 pub mod Writing
 pub mod ReadsBack
+pub mod Naming

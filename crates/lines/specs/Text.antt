@@ -25,9 +25,13 @@ unfoldable pub signed : ℤ → List ℕ
 signed (pos n) = decimal n
 signed (negsuc n) = 45 ∷ decimal (suc n)
 
--- a record's number, its code and two values: a space, 32, between them and a line feed, 10, at the end
+-- a record's code and two values: a space, 32, between them and a line feed, 10, at the end
+abbrev pub valuesText : ℤ → ℕ → ℕ → List ℕ
+valuesText code x y = signed code ++ 32 ∷ decimal x ++ 32 ∷ decimal y ++ 10 ∷ []
+
+-- its line: the number, a space and those
 unfoldable pub lineText : ℕ → ℤ → ℕ → ℕ → List ℕ
-lineText number code x y = decimal number ++ 32 ∷ signed code ++ 32 ∷ decimal x ++ 32 ∷ decimal y ++ 10 ∷ []
+lineText number code x y = decimal number ++ 32 ∷ valuesText code x y
 
 -- "end " and two numbers
 unfoldable pub endText : ℕ → ℕ → List ℕ
@@ -45,6 +49,10 @@ inputText = 105 ∷ 110 ∷ 112 ∷ 117 ∷ 116 ∷ 32 ∷ signed (numberOf NoSp
 abbrev pub lineRoom : ℕ
 lineRoom = 75
 
+-- and of it what follows the number
+abbrev pub restRoom : ℕ
+restRoom = 54
+
 abbrev pub endRoom : ℕ
 endRoom = 46
 
@@ -60,9 +68,9 @@ putOf buffer at text = cond (fits buffer at text) (sets buffer at text) buffer
 unfoldable pub writtenOf : List ℕ → ℕ → List ℕ → Written
 writtenOf buffer at text = cond (fits buffer at text) (W.Accepted (at + length text)) (W.Refused NoSpace)
 
--- the same where room is asked for the longest line, however short the text is
-unfoldable pub roomyPut : List ℕ → ℕ → List ℕ → List ℕ
-roomyPut buffer at text = cond (ltb (length buffer) (at + lineRoom)) buffer (sets buffer at text)
+-- the same where so much room is asked for, however short the text is
+unfoldable pub roomyPut : ℕ → List ℕ → ℕ → List ℕ → List ℕ
+roomyPut room buffer at text = cond (ltb (length buffer) (at + room)) buffer (sets buffer at text)
 
-unfoldable pub roomyWritten : List ℕ → ℕ → List ℕ → Written
-roomyWritten buffer at text = cond (ltb (length buffer) (at + lineRoom)) (W.Refused NoSpace) (W.Accepted (at + length text))
+unfoldable pub roomyWritten : ℕ → List ℕ → ℕ → List ℕ → Written
+roomyWritten room buffer at text = cond (ltb (length buffer) (at + room)) (W.Refused NoSpace) (W.Accepted (at + length text))

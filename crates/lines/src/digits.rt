@@ -38,16 +38,16 @@ pub(crate) fn places(number: u64) -> usize
     count + few
 }
 
-// Both digits, a zero in front too. Narrow numbers divide faster than wide ones.
-fn put_two(out: &mut [u8], at: usize, number: u32)
+// Both digits, a zero in front too, as one number of two bytes: 103 / 1024 is a tenth, for numbers this small.
+pub(crate) fn put_two(out: &mut [u8], at: usize, number: u32)
     requires { ⌜ Below (now out) at number 100 2 ⌝ }
     ensures { λ r. ⌜ now (out .exit) ≡ sets (now (out .entry)) at (two number) ⌝ }
 {
-    let tens = (number / 10) as u8;
-    let ones = (number % 10) as u8;
+    let tens = number * 103 / 1024;
+    let pair = 256 * number + 12336 - 2559 * tens;
     let second = at + 1;
-    out[at] = b'0' + tens;
-    out[second] = b'0' + ones;
+    out[at] = (pair % 256) as u8;
+    out[second] = (pair / 256) as u8;
 }
 
 fn put_four(out: &mut [u8], at: usize, number: u32)
@@ -88,7 +88,7 @@ fn put_few(out: &mut [u8], at: usize, number: u32) -> usize
 }
 
 // One digit to eight, from the left: they need not be counted.
-fn put_eight(out: &mut [u8], at: usize, number: u32) -> usize
+pub(crate) fn put_eight(out: &mut [u8], at: usize, number: u32) -> usize
     requires { ⌜ Below (now out) at number 100000000 (length (decimal number)) ⌝ }
     ensures { λ r. ⌜ Put (now (out .entry)) (now (out .exit)) at r (decimal number) ⌝ }
 {

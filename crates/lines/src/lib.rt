@@ -6,7 +6,7 @@ ghost use lib.ListN.{length};
 ghost use lib.Dec.{ltb};
 ghost use lib.IntN.{pos};
 ghost use Rattle.lines.specs.Says.{writtenSays};
-ghost use Rattle.lines.specs.Text.{signed, lineText, endText, tailText, inputText, putOf, writtenOf, roomyPut, roomyWritten};
+ghost use Rattle.lines.specs.Text.{signed, lineText, endText, tailText, inputText, putOf, writtenOf, valuesText, restRoom, roomyPut, roomyWritten};
 use buffer::lacks_room;
 use buffer::put_letters;
 use codes::code_places;
@@ -19,9 +19,13 @@ use error::Refusal;
 mod buffer;
 mod codes;
 mod digits;
+pub mod label;
 
 // The longest line: three numbers of 20 digits, a code of 11 bytes and four bytes between and after them.
 pub const LINE_ROOM: usize = 75;
+
+// And of it what follows the number.
+const REST_ROOM: usize = 54;
 
 pub enum Written {
     // The place after the text.
@@ -85,22 +89,35 @@ pub fn put_line(out: &mut [u8], at: usize, number: u64, code: i32, x: u64, y: u6
     Written::Accepted(end)
 }
 
-// The line of a step that was accepted, where the longest line has room: nothing has to be counted,
-// and code 0 is one digit.
-pub fn put_accepted(out: &mut [u8], at: usize, number: u64, x: u64, y: u64) -> Written
-    ensures answer { λ r. ⌜ r ≡ roomyWritten (now (out .entry)) at (lineText number (pos 0) x y) ⌝ }
-    ensures buffer { λ r. ⌜ now (out .exit) ≡ roomyPut (now (out .entry)) at (lineText number (pos 0) x y) ⌝ }
+// What follows the number in the line of a step that was accepted: code 0 and two values. Room is asked for the
+// longest, so that nothing has to be counted.
+pub fn put_values(out: &mut [u8], at: usize, x: u64, y: u64) -> Written
+    ensures answer { λ r. ⌜ r ≡ roomyWritten restRoom (now (out .entry)) at (valuesText (pos 0) x y) ⌝ }
+    ensures buffer { λ r. ⌜ now (out .exit) ≡ roomyPut restRoom (now (out .entry)) at (valuesText (pos 0) x y) ⌝ }
 {
-    if lacks_room(out.len(), at, LINE_ROOM) {
+    if lacks_room(out.len(), at, REST_ROOM) {
         return Written::Refused(Refusal::NoSpace);
     }
-    let code = put_long(out, at, number, b' ');
-    let space = code + 1;
+    let space = at + 1;
     let first = space + 1;
-    out[code] = b'0';
+    out[at] = b'0';
     out[space] = b' ';
     let last = put_number(out, first, x, b' ');
     let end = put_number(out, last, y, b'\n');
+    Written::Accepted(end)
+}
+
+// The same for one that was turned away: its code, 0 and 0.
+pub fn put_refusal(out: &mut [u8], at: usize, code: i32) -> Written
+    ensures answer { λ r. ⌜ r ≡ roomyWritten restRoom (now (out .entry)) at (valuesText code 0 0) ⌝ }
+    ensures buffer { λ r. ⌜ now (out .exit) ≡ roomyPut restRoom (now (out .entry)) at (valuesText code 0 0) ⌝ }
+{
+    if lacks_room(out.len(), at, REST_ROOM) {
+        return Written::Refused(Refusal::NoSpace);
+    }
+    let zero = put_code(out, at, code, b' ');
+    let again = put_number(out, zero, 0, b' ');
+    let end = put_number(out, again, 0, b'\n');
     Written::Accepted(end)
 }
 

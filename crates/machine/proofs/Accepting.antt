@@ -1,60 +1,24 @@
 -- What the tests let through is accepted: no entry below turns away a task that passed.
 use Prim.Native.Nat.{_-_, ℕ, _+_, _*_}
-use mathlib.Core.Path.{_≡_, refl, sym, ap, subst, _∙_}
+use mathlib.Core.Path.{_≡_, refl, sym}
 use mathlib.Core.Bool.{Bool, true, false, not, _&&_, _||_, false≢true}
 use lib.Dec.{eqb}
 use borrow.Author.Tests.{ltb-false, eqb-false}
-use Rattle.error.proofs.Tests.{clash}
-use Rattle.error.specs.declared.Refusal.{Refusal}
 use Rattle.error.specs.Numbers.{max32, max64}
 use Rattle.error.specs.InOrder.{NoneHolds}
-use Rattle.error.proofs.Ordered.{accepts, refuses, accepted-only, refused-only}
-use Rattle.counter.specs.declared.Counter.{Counter}
-use Rattle.counter.specs.declared.Ran.{Ran}
-use Rattle.counter.specs.declared.Ran.the-variants as R
 use Rattle.counter.specs.Entries.{goodPeriod}
 use Rattle.counter.proofs.Outcomes.{ran-on, in-range-of}
 use Rattle.clock.specs.declared.Gaps.{Gaps}
-use Rattle.clock.specs.declared.Timer.{Timer}
-use Rattle.clock.specs.declared.SampleTaken.{SampleTaken}
-use Rattle.clock.specs.declared.Sampled.{Sampled}
-use Rattle.clock.specs.declared.Sampled.the-variants as S
-use Rattle.clock.specs.declared.SetUp.{SetUp}
-use Rattle.clock.specs.declared.SetUp.the-variants as U
 use Rattle.clock.specs.Timer.{wellFormed}
 use Rattle.clock.proofs.Outcomes.{formed-valid, sampled, set-up}
 use Rattle.books.specs.Enter.{unrecorded}
 use Rattle.table.specs.declared.Core.{Core}
-use Rattle.table.specs.declared.tasks.Asked.{Asked}
 use Rattle.table.specs.declared.tasks.Task.{Task}
 use Rattle.table.specs.declared.tasks.Task.the-variants as T
 use Rattle.table.specs.declared.tasks.Then.the-variants as W
 use Rattle.table.specs.Task.{askedBy, sumOf}
-use Rattle.table.specs.declared.Reason.{Reason}
-use Rattle.table.specs.declared.Verdict.{Verdict}
-use Rattle.table.specs.declared.Verdict.the-variants as D
-use Rattle.table.specs.Table.{malformed, crowded, table, testedOf}
-use Rattle.machine.specs.Step.{turned, effectOf, taskBegun}
+use Rattle.table.specs.Table.{malformed, crowded, table}
 use Rattle.machine.specs.Accepts.{Samples, SetsUp, Accepts}
-
--- an answer that is accepted is not refused, and holds what it was accepted with
-pub never-ran : {answer : Ran} {counter : Counter} {why : Refusal} → answer ≡ R.Accepted counter → answer ≡ R.Refused why → ⊥
-never-ran p q = clash (cc)
-
-pub ran-is : {answer : Ran} {one other : Counter} → answer ≡ R.Accepted one → answer ≡ R.Accepted other → one ≡ other
-ran-is p q = cc
-
-pub never-sampled : {answer : Sampled} {taken : SampleTaken} {why : Refusal} → answer ≡ S.Accepted taken → answer ≡ S.Refused why → ⊥
-never-sampled p q = clash (cc)
-
-pub sampled-is : {answer : Sampled} {one other : SampleTaken} → answer ≡ S.Accepted one → answer ≡ S.Accepted other → one ≡ other
-sampled-is p q = cc
-
-pub never-set-up : {answer : SetUp} {timer : Timer} {why : Refusal} → answer ≡ U.Accepted timer → answer ≡ U.Refused why → ⊥
-never-set-up p q = clash (cc)
-
-pub set-up-is : {answer : SetUp} {one other : Timer} → answer ≡ U.Accepted one → answer ≡ U.Accepted other → one ≡ other
-set-up-is p q = cc
 
 -- a task that is no setup passed on a machine that is set up
 pub ready-of : (ready : Bool) → not ready && true ≡ false → ready ≡ true

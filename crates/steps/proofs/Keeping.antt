@@ -35,7 +35,7 @@ use Rattle.table.specs.declared.tasks.Task.the-variants as T
 use Rattle.table.specs.declared.tasks.Then.the-variants as W
 use Rattle.table.specs.Task.{taskOf, askedBy}
 use Rattle.table.specs.Table.{malformed, table}
-use Rattle.machine.specs.Step.{turned, announcedBegun, effectOf, taskBegun, decodedBegun, beginOf, enteredStep, finishNext, slotOf, placeOf, coreOf, machineOf, steppedFrom, stepFrom, stepOf}
+use Rattle.machine.specs.Step.{turned, announcedBegun, effectOf, taskBegun, decodedBegun, beginOf, enteredStep, finishNext, placeOf, coreOf, machineOf, steppedFrom, stepFrom, stepOf}
 use Rattle.steps.specs.Laws.{announceRows, lastRows, recordRows, everyRow, Operates, EveryRefusal}
 use Rattle.steps.specs.Answers.{answerTo, timed}
 use Rattle.steps.proofs.Refusing.{exactly}

@@ -40,21 +40,33 @@ use Rattle.machine.specs.Making.{toldBegun, ranBegun, begunBy}
 use Rattle.machine.proofs.Changing.{same}
 use Rattle.steps.proofs.Keeping.{every-refusal}
 use Rattle.steps.proofs.Whole.{stays-whole}
-use Rattle.lines.specs.Text.{lineRoom}
+use Rattle.lines.specs.declared.label.Label.{Label}
+use Rattle.lines.specs.Text.{lineRoom, restRoom}
+use Rattle.lines.specs.Naming.{nextLabel, labelText, underneath, Named}
 use Rattle.lines.specs.Writing.{Put}
-use Rattle.transcript.specs.Replay.{recordsFrom, machineAfter, linesFrom, outcomeText}
-use Rattle.transcript.specs.Room.{changeUnless, Replays}
+use Rattle.transcript.specs.Replay.{recordsFrom, machineAfter, linesFrom, outcomeText, restOf}
+use Rattle.transcript.specs.Room.{changeUnless, Labelled, Replays}
+use Rattle.lines.proofs.Named.{next-named}
 use Rattle.lines.proofs.Stores.{in-parts}
+use Rattle.transcript.proofs.Texts.{whole-line, label-room}
+
+-- the number that a label counts
+abbrev pub counted : Label → ℕ
+counted l = 100 * l .head + l .pair
+
+pub counts : {l : Label} {n : ℕ} → Named l n → counted l ≡ n
+counts named = let h = named .head in let p = named .pair in omega arith
 
 -- the state of the loop: what is left to do from here gives what is to be done in all
-pub record Going (m₀ : Machine) (n₀ : ℕ) (ds₀ : List Decoded) (slots : ℕ) (broken : Bool) (trace out₀ : List ℕ) (at limit : ℕ) (out : List ℕ) (m : Machine) (number left from end : ℕ) : Type 0 where
+pub record Going (m₀ : Machine) (n₀ : ℕ) (ds₀ : List Decoded) (slots : ℕ) (broken : Bool) (trace out₀ : List ℕ) (at limit : ℕ) (out : List ℕ) (m : Machine) (label : Label) (left from end : ℕ) : Type 0 where
   pub machine : machineAfter m (recordsFrom left trace from) ≡ machineAfter m₀ ds₀
-  pub place : end + length (linesFrom m number (recordsFrom left trace from)) ≡ at + length (linesFrom m₀ n₀ ds₀)
-  pub bytes : sets out end (linesFrom m number (recordsFrom left trace from)) ≡ sets out₀ at (linesFrom m₀ n₀ ds₀)
+  pub place : end + length (linesFrom m (counted label) (recordsFrom left trace from)) ≡ at + length (linesFrom m₀ n₀ ds₀)
+  pub bytes : sets out end (linesFrom m (counted label) (recordsFrom left trace from)) ≡ sets out₀ at (linesFrom m₀ n₀ ds₀)
   pub kept : length out ≡ length out₀
   pub table : length (m .ledger .threads) ≡ slots
   pub form : malformed (coreOf m) slots ≡ broken
-  pub numbers : number + left ≤ max64
+  pub named : Named label (counted label)
+  pub numbers : counted label + left ≤ max64
   pub records : from + left * 16 ≤ max64
   pub room : end + left * lineRoom ≤ limit
   pub enough : limit ≤ length out
@@ -67,36 +79,59 @@ stays m d true e =
     let unchanged = every-refusal m d .1 .untouched Why.Malformed refused (λ q. clash (cc)) in
     rw unchanged e
 
-module _ {m₀ : Machine} {n₀ : ℕ} {ds₀ : List Decoded} {slots : ℕ} {broken : Bool} {trace out₀ : List ℕ} {at limit : ℕ} {out : List ℕ} {m : Machine} {number left from end : ℕ} (before : Going m₀ n₀ ds₀ slots broken trace out₀ at limit out m number left from end) (some : 0 < left) where
+module _ {m₀ : Machine} {n₀ : ℕ} {ds₀ : List Decoded} {slots : ℕ} {broken : Bool} {trace out₀ : List ℕ} {at limit : ℕ} {out : List ℕ} {m : Machine} {label : Label} {left from end : ℕ} (before : Going m₀ n₀ ds₀ slots broken trace out₀ at limit out m label left from end) (some : 0 < left) where
   abbrev rest : ℕ
   rest = left - 1
 
-  going : Going m₀ n₀ ds₀ slots broken trace out₀ at limit out m number (suc rest) from end
+  abbrev number : ℕ
+  number = counted label
+
+  going : Going m₀ n₀ ds₀ slots broken trace out₀ at limit out m label (suc rest) from end
   going = let e : suc rest ≡ left = omega arith in rw e before
 
-  module _ {o : Outcome} {m' : Machine} (stepped : stepOf m (decodeOf trace from) ≡ record { outcome = o; machine = m' }) {end' : ℕ} {out' : List ℕ} (line : Put out out' end end' (outcomeText number o)) (within : end' ≤ end + lineRoom) where
-    -- of what was left, this line and the lines after it
-    this-line : linesFrom m number (recordsFrom (suc rest) trace from) ≡ outcomeText number o ++ linesFrom m' (suc number) (recordsFrom rest trace (from + 16))
-    unfolding linesFrom recordsFrom
-    this-line = rw stepped refl
+  module _ {second : ℕ} {between : List ℕ} (labelled : Labelled out between end second label) where
+    -- what follows the number has its room
+    pub rest-fits : second + restRoom ≤ length between
+    rest-fits =
+        let same : length between ≡ length out = ap length (labelled .bytes) ∙ (length-sets (sets out end (underneath label)) end (labelText label) ∙ length-sets out end (underneath label)) in
+        let next = labelled .next in
+        omega (arith, label-room label number (going .named) (omega (arith, going .numbers)), going .room, going .enough)
 
-    same-length : length out' ≡ length out
-    same-length = ap length (line .bytes) ∙ length-sets out end (outcomeText number o)
+    module _ {o : Outcome} {m' : Machine} (stepped : stepOf m (decodeOf trace from) ≡ record { outcome = o; machine = m' }) {end' : ℕ} {out' : List ℕ} (follows : Put between out' second end' (restOf o)) (within : end' ≤ second + restRoom) {label' : Label} (onward : label' ≡ nextLabel label) where
+      line : Put out out' end end' (outcomeText number o)
+      line = whole-line label number o (going .named) (omega (arith, going .numbers)) labelled follows
 
-    pub goes-on : length (m' .ledger .threads) ≡ slots → Going m₀ n₀ ds₀ slots broken trace out₀ at limit out' m' (number + 1) rest (from + 16) end'
-    unfolding machineAfter recordsFrom
-    goes-on table = rw (add-one number) (record {
-      machine = sym (ap (λ t. machineAfter (t .machine) (recordsFrom rest trace (from + 16))) stepped) ∙ going .machine;
-      place = let h = going .place in let both = length-append (outcomeText number o) (linesFrom m' (suc number) (recordsFrom rest trace (from + 16))) in let same = ap length this-line in let next = line .next in omega arith;
-      bytes = rw (line .next, line .bytes) (sym (in-parts out end (outcomeText number o) (linesFrom m' (suc number) (recordsFrom rest trace (from + 16)))) ∙ (sym (ap (sets out end) this-line) ∙ going .bytes));
-      kept = same-length ∙ going .kept;
-      table = table;
-      form = rw (← table) (ap (λ (t : Stepped). malformed (coreOf (t .machine)) (length (t .machine .ledger .threads))) (sym stepped) ∙ stays m (decodeOf trace from) broken (rw (going .table) (going .form)));
-      numbers = let h = going .numbers in omega arith;
-      records = let h = going .records in omega arith;
-      room = let h = going .room in omega arith;
-      enough = rw same-length (going .enough);
-    })
+      line-within : end' ≤ end + lineRoom
+      line-within = let next = labelled .next in omega (arith, within, label-room label number (going .named) (omega (arith, going .numbers)))
+
+      -- of what was left, this line and the lines after it
+      this-line : linesFrom m number (recordsFrom (suc rest) trace from) ≡ outcomeText number o ++ linesFrom m' (suc number) (recordsFrom rest trace (from + 16))
+      unfolding linesFrom recordsFrom
+      this-line = rw stepped refl
+
+      same-length : length out' ≡ length out
+      same-length = ap length (line .bytes) ∙ length-sets out end (outcomeText number o)
+
+      next-named' : Named label' (number + 1)
+      next-named' = rw onward (next-named label number (going .named) (omega (arith, going .numbers)))
+
+      pub goes-on : length (m' .ledger .threads) ≡ slots → Going m₀ n₀ ds₀ slots broken trace out₀ at limit out' m' label' rest (from + 16) end'
+      unfolding machineAfter recordsFrom
+      goes-on table =
+          let one-more : counted label' ≡ suc number = counts next-named' ∙ add-one number in
+          record {
+            machine = sym (ap (λ t. machineAfter (t .machine) (recordsFrom rest trace (from + 16))) stepped) ∙ going .machine;
+            place = rw one-more (let h = going .place in let both = length-append (outcomeText number o) (linesFrom m' (suc number) (recordsFrom rest trace (from + 16))) in let same = ap length this-line in let next = line .next in omega arith);
+            bytes = rw (one-more, line .next, line .bytes) (sym (in-parts out end (outcomeText number o) (linesFrom m' (suc number) (recordsFrom rest trace (from + 16)))) ∙ (sym (ap (sets out end) this-line) ∙ going .bytes));
+            kept = same-length ∙ going .kept;
+            table = table;
+            form = rw (← table) (ap (λ (t : Stepped). malformed (coreOf (t .machine)) (length (t .machine .ledger .threads))) (sym stepped) ∙ stays m (decodeOf trace from) broken (rw (going .table) (going .form)));
+            named = rw (counts next-named') next-named';
+            numbers = let h = going .numbers in omega arith;
+            records = let h = going .records in omega arith;
+            room = let h = going .room in omega (arith, line-within);
+            enough = rw same-length (going .enough);
+          }
 
 -- a turn of the loop: the state, and what the record changes of it
 pub record Turn (core : Core) (threads : List ThreadUsage) (d : Decoded) (change : Change) : Type 0 where
@@ -154,6 +189,6 @@ module _ {core : Core} {threads : List ThreadUsage} {d : Decoded} {change : Chan
   all-fresh sized e timed b i = step-is ∙ rw (e, timed, b, i, sized) refl
 
 -- where nothing is left, everything is done
-pub ended : {core₀ : Core} {m : Machine} {n₀ count at : ℕ} {slots : ℕ} {broken : Bool} {trace out₀ out : List ℕ} {after : Machine} {number left from end : ℕ} → core₀ ≡ coreOf m → Going (machineOf core₀ (m .ledger .threads)) n₀ (recordsFrom count trace 0) slots broken trace out₀ at (at + count * lineRoom) out after number left from end → left ≤ 0 → Replays m n₀ count trace out₀ out at (record { end = end; machine = after })
+pub ended : {core₀ : Core} {m : Machine} {n₀ first count at : ℕ} {slots : ℕ} {broken : Bool} {trace out₀ out : List ℕ} {after : Machine} {label : Label} {left from end : ℕ} → core₀ ≡ coreOf m → n₀ ≡ first → Going (machineOf core₀ (m .ledger .threads)) n₀ (recordsFrom count trace 0) slots broken trace out₀ at (at + count * lineRoom) out after label left from end → left ≤ 0 → Replays m first count trace out₀ out at (record { end = end; machine = after })
 unfolding machineAfter linesFrom recordsFrom
-ended {left = left} e going h = let z : left ≡ 0 = omega arith in let done = rw (e, z) at going in record { machine = done .machine; end = let p = done .place in omega arith; bytes = done .bytes; within = let p = done .room in omega arith }
+ended {left = left} e f going h = let z : left ≡ 0 = omega arith in let done = rw (e, f, z) at going in record { machine = done .machine; end = let p = done .place in omega arith; bytes = done .bytes; within = let p = done .room in omega arith }

@@ -1,12 +1,13 @@
 -- A record's line, the lines that end a trace's text, and the room that the whole of it is asked for.
 use Prim.Native.Nat.{ℕ, _+_, _*_, _/_, _%_, _≤_, _<_}
-use mathlib.Core.Path.{_≡_, refl, ap, _∙_}
+use mathlib.Core.Path.{_≡_, refl, sym, ap, _∙_}
 use mathlib.Core.Bool.{Bool, true, false, cond}
-use mathlib.Core.List.{List, _++_}
+use mathlib.Core.List.{List, [], _∷_, _++_, append-assoc}
 use native.Mathlib.Omega.{arith}
 use native.Mathlib.Nat.{zero-add}
-use lib.ListN.{length}
-use lib.IntN.{ℤ, pos}
+use lib.ListN.{length, length-append}
+use lib.IntN.{ℤ, pos, negsuc}
+use lib.Seq.{sets}
 use lib.Dec.{ltb, leb}
 use borrow.Author.Tests.{eq-eqb, ne-eqb, lt-ltb, le-ltb, ltb-true, ltb-false, leb-true}
 use Rattle.error.specs.declared.Refusal.{Refusal}
@@ -14,7 +15,6 @@ use Rattle.error.specs.declared.Refusal.the-variants.{NoSpace, Overflow}
 use Rattle.error.specs.Numbers.{max64}
 use Rattle.machine.specs.declared.Machine.{Machine}
 use Rattle.table.specs.declared.Outcome.{Outcome}
-use Rattle.table.specs.declared.Outcome.the-variants as O
 use Rattle.table.specs.Says.{outcomeSays}
 use Rattle.machine.specs.Step.{freshMachine}
 use Rattle.lines.specs.declared.Written.{Written}
@@ -22,11 +22,16 @@ use Rattle.lines.specs.declared.Written.the-variants as W
 use Rattle.transcript.specs.declared.Part.{Part}
 use Rattle.transcript.specs.declared.Replayed.{Replayed}
 use Rattle.lines.specs.Says.{writtenSays}
-use Rattle.lines.specs.Text.{lineText, endText, tailText, inputText, fits, putOf, writtenOf, roomyPut, roomyWritten, lineRoom}
+use Rattle.lines.specs.declared.label.Label.{Label}
+use Rattle.lines.specs.Text.{decimal, signed, valuesText, lineText, endText, tailText, inputText, fits, putOf, writtenOf, roomyPut, roomyWritten, lineRoom, restRoom}
+use Rattle.lines.specs.Naming.{labelText, underneath, labelPut, labelWritten, Named}
 use Rattle.lines.specs.Writing.{Put}
-use Rattle.transcript.specs.Room.{Replays}
-use Rattle.transcript.specs.Replay.{machineAfter, outcomeText, wholeRecords, linesFrom, partRefused, partOf, partBuffer, lastRoom, mostBytes, lastText, lastOf, textFrom, traceText, roomFor, replayOf, replayedOf}
-use Rattle.lines.proofs.Stores.{then}
+use Rattle.transcript.specs.Room.{Labelled, Replays}
+use Rattle.transcript.specs.Replay.{machineAfter, outcomeText, restOf, wholeRecords, linesFrom, partRefused, partOf, partBuffer, lastRoom, mostBytes, lastText, lastOf, textFrom, traceText, roomFor, replayOf, replayedOf}
+use Rattle.lines.proofs.Decimal.{more, size-one, size-64}
+use Rattle.lines.proofs.Sizes.{line-size}
+use Rattle.lines.proofs.Named.{named-text, underneath-short, covered}
+use Rattle.lines.proofs.Stores.{then, in-parts}
 use Rattle.lines.proofs.Whole.{accepted, put, refused, kept, roomy, put-length}
 
 -- a text that was written where it fits
@@ -34,20 +39,65 @@ pub stands : (buffer : List ℕ) (at : ℕ) (text : List ℕ) {now : List ℕ} {
 unfolding writtenSays
 stands buffer at text h ew en ee = record { next = rw (ee, ew, accepted buffer at text h) refl; bytes = en ∙ put buffer at text h }
 
--- an outcome's line, from what the outcome says
-pub line-stands : (number : ℕ) (o : Outcome) {buffer now : List ℕ} {at end x y : ℕ} {code : ℤ} {written : Written} → code ≡ outcomeSays o .number → x ≡ outcomeSays o .value .x → y ≡ outcomeSays o .value .y → length (lineText number code x y) ≤ lineRoom → at + lineRoom ≤ length buffer → written ≡ writtenOf buffer at (lineText number code x y) → now ≡ putOf buffer at (lineText number code x y) → end ≡ writtenSays written .value → Put buffer now at end (outcomeText number o) × (end ≤ at + lineRoom)
-unfolding outcomeText
-line-stands number o {buffer = buffer} {at = at} ec ex ey short room ew en ee =
-    let line = stands buffer at _ (omega arith) ew en ee in
+-- what follows the number, put where the longest has room
+pub rest-stands : (o : Outcome) {buffer now : List ℕ} {at end x y : ℕ} {code : ℤ} {written : Written} → code ≡ outcomeSays o .number → x ≡ outcomeSays o .value .x → y ≡ outcomeSays o .value .y → length (valuesText code x y) ≤ restRoom → at + restRoom ≤ length buffer → written ≡ roomyWritten restRoom buffer at (valuesText code x y) → now ≡ roomyPut restRoom buffer at (valuesText code x y) → end ≡ writtenSays written .value → Put buffer now at end (restOf o) × (end ≤ at + restRoom)
+unfolding restOf writtenSays
+rest-stands o {buffer = buffer} {now = now} {at = at} {end = end} {x = x} {y = y} {code = code} ec ex ey short room ew en ee =
+    let there = roomy buffer at (valuesText code x y) restRoom room in
+    let line : Put buffer now at end (valuesText code x y) = record { next = rw (ee, ew, there .0) refl; bytes = en ∙ there .1 } in
     (rw (← ec, ← ex, ← ey) line, let next = line .next in omega arith)
 
--- an accepted step's line, put where the longest has room
-pub told-stands : (number x y : ℕ) {buffer now : List ℕ} {at end : ℕ} {written : Written} → length (lineText number (pos 0) x y) ≤ lineRoom → at + lineRoom ≤ length buffer → written ≡ roomyWritten buffer at (lineText number (pos 0) x y) → now ≡ roomyPut buffer at (lineText number (pos 0) x y) → end ≡ writtenSays written .value → Put buffer now at end (outcomeText number (O.Accepted (record { x = x; y = y }))) × (end ≤ at + lineRoom)
-unfolding outcomeText outcomeSays writtenSays
-told-stands number x y {buffer = buffer} {now = now} {at = at} {end = end} short room ew en ee =
-    let there = roomy buffer at (lineText number (pos 0) x y) room in
-    let line : Put buffer now at end (lineText number (pos 0) x y) = record { next = rw (ee, ew, there .0) refl; bytes = en ∙ there .1 } in
-    (line, let next = line .next in omega arith)
+-- a label, put where the longest line has room
+pub label-stands : {buffer now : List ℕ} {at end : ℕ} (l : Label) {written : Written} → at + lineRoom ≤ length buffer → written ≡ labelWritten buffer at l → now ≡ labelPut buffer at l → end ≡ writtenSays written .value → Labelled buffer now at end l
+unfolding labelWritten labelPut writtenSays
+label-stands {buffer = buffer} {at = at} l room ew en ee =
+    let there = le-ltb (length buffer) (at + lineRoom) room in
+    record { next = rw (ee, ew, there) refl; bytes = en ∙ rw there refl }
+
+-- a number has a digit
+some-digits : (n : ℕ) → 1 ≤ length (decimal n)
+some-digits n = by-test (ltb n 10) refl
+  where
+    by-test : (b : Bool) → ltb n 10 ≡ b → 1 ≤ length (decimal n)
+    by-test true e = let s = size-one n (ltb-true n 10 e) in omega arith
+    by-test false e = let s = ap length (more n (ltb-false n 10 e)) ∙ length-append (decimal (n / 10)) ((48 + n % 10) ∷ []) in omega arith
+
+some-signed : (z : ℤ) → 1 ≤ length (signed z)
+unfolding signed
+some-signed (pos n) = some-digits n
+some-signed (negsuc n) = omega arith
+
+module _ {before between after : List ℕ} {at second end : ℕ} (l : Label) (n : ℕ) (o : Outcome) (named : Named l n) (small : n ≤ max64) (label : Labelled before between at second l) (rest : Put between after second end (restOf o)) where
+  -- the number's part and what follows are the line
+  parts : labelText l ++ restOf o ≡ outcomeText n o
+  unfolding restOf outcomeText lineText
+  parts = ap (λ (t : List ℕ). t ++ restOf o) (named-text l n named small) ∙ append-assoc (decimal n) (32 ∷ []) (restOf o)
+
+  -- and long enough to cover what the label left underneath
+  long-enough : length (underneath l) ≤ length (labelText l ++ restOf o)
+  unfolding outcomeText
+  long-enough =
+      let code = outcomeSays o .number in
+      let x = outcomeSays o .value .x in
+      let y = outcomeSays o .value .y in
+      let size = ap length parts ∙ line-size n code x y in
+      omega (arith, underneath-short l n named, some-digits n, some-signed code, some-digits x, some-digits y)
+
+  pub whole-line : Put before after at end (outcomeText n o)
+  whole-line = record {
+    next = let h = label .next in let k = rest .next in let size = ap length parts in omega (arith, length-append (labelText l) (restOf o));
+    bytes =
+        rest .bytes ∙
+        rw (label .bytes, label .next)
+        (sym (in-parts (sets before at (underneath l)) at (labelText l) (restOf o)) ∙
+        (covered before at (underneath l) (labelText l ++ restOf o) long-enough ∙ ap (sets before at) parts));
+  }
+
+-- the number's part leaves the rest its room
+pub label-room : (l : Label) (n : ℕ) → Named l n → n ≤ max64 → length (labelText l) ≤ 21
+label-room l n named small =
+    let size = ap length (named-text l n named small) ∙ length-append (decimal n) (32 ∷ []) in
+    omega (arith, size-64 n (omega arith))
 
 -- the place that is answered is within the buffer
 pub accepted-within : {end room : ℕ} → end ≤ room → writtenSays (W.Accepted end) .value ≤ room

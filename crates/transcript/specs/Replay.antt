@@ -18,7 +18,7 @@ use Rattle.machine.specs.Step.{freshMachine, stepOf}
 use Rattle.lines.specs.declared.Written.{Written}
 use Rattle.lines.specs.declared.Written.the-variants as W
 use Rattle.transcript.specs.declared.Part.{Part}
-use Rattle.lines.specs.Text.{lineText, endText, tailText, inputText, lineRoom, endRoom}
+use Rattle.lines.specs.Text.{valuesText, lineText, endText, tailText, inputText, lineRoom, endRoom}
 
 -- so many records of a trace, from a place on
 unfoldable pub recordsFrom : ℕ → List ℕ → ℕ → List Decoded
@@ -30,9 +30,12 @@ unfoldable pub machineAfter : Machine → List Decoded → Machine
 machineAfter m [] = m
 machineAfter m (d ∷ ds) = machineAfter (stepOf m d .machine) ds
 
--- a record's line
+-- a record's line, and what of it follows the number
 unfoldable pub outcomeText : ℕ → Outcome → List ℕ
 outcomeText n o = lineText n (outcomeSays o .number) (outcomeSays o .value .x) (outcomeSays o .value .y)
+
+unfoldable pub restOf : Outcome → List ℕ
+restOf o = valuesText (outcomeSays o .number) (outcomeSays o .value .x) (outcomeSays o .value .y)
 
 -- a line for each, numbered on
 unfoldable pub linesFrom : Machine → ℕ → List Decoded → List ℕ

@@ -15,11 +15,18 @@ use Rattle.changes.specs.declared.Change.the-variants as X
 use Rattle.changes.specs.Change.{changeOf}
 use Rattle.transcript.specs.declared.Replayed.{Replayed}
 use Rattle.transcript.specs.Replay.{recordsFrom, machineAfter, linesFrom, lastRoom, mostBytes}
+use Rattle.lines.specs.declared.label.Label.{Label}
 use Rattle.lines.specs.Text.{lineRoom}
+use Rattle.lines.specs.Naming.{labelText, underneath}
 
 -- what a record changes of a state that may be malformed
 unfoldable pub changeUnless : Bool → Core → ℕ → Decoded → Change
 changeUnless broken c slots d = cond broken (X.Refused Why.Malformed) (changeOf c slots d)
+
+-- the label stands in the buffer over what was put before it, and `end` is the place after it
+pub record Labelled (before now : List ℕ) (at end : ℕ) (l : Label) : Type 0 where
+  pub next : end ≡ at + length (labelText l)
+  pub bytes : now ≡ sets (sets before at (underneath l)) at (labelText l)
 
 -- the numbers fit, and so do the longest lines
 pub record HasRoom (first count : ℕ) (out : List ℕ) (at : ℕ) : Type 0 where

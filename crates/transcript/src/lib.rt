@@ -8,10 +8,10 @@ ghost use Rattle.trace.specs.Decode.{decodeOf};
 ghost use Rattle.table.specs.declared.Outcome.the-variants as O;
 ghost use Rattle.machine.specs.Step.{accepted, machineOf, freshMachine};
 ghost use Rattle.lines.specs.Says.{writtenSays};
-ghost use Rattle.lines.specs.Text.{lineRoom};
+ghost use Rattle.lines.specs.Text.{lineRoom, restRoom};
 ghost use Rattle.lines.specs.Writing.{Put};
-ghost use Rattle.transcript.specs.Room.{changeUnless, HasRoom, Replays, Fits};
-ghost use Rattle.transcript.specs.Replay.{outcomeText, partRefused, partOf, partBuffer, lastRoom, lastText, textFrom, roomFor, replayOf, replayedOf};
+ghost use Rattle.transcript.specs.Room.{changeUnless, Labelled, HasRoom, Replays, Fits};
+ghost use Rattle.transcript.specs.Replay.{restOf, partRefused, partOf, partBuffer, lastRoom, lastText, textFrom, roomFor, replayOf, replayedOf};
 use books::Books;
 use books::Entered;
 use changes::Change;
@@ -22,11 +22,13 @@ use error::Refusal;
 use ledger::Ledger;
 use lines::LINE_ROOM;
 use lines::Written;
-use lines::put_accepted;
+use lines::label::Label;
+use lines::label::put_label;
 use lines::put_end;
 use lines::put_input;
-use lines::put_line;
+use lines::put_refusal;
 use lines::put_tail;
+use lines::put_values;
 use machine::Machine;
 use table::Core;
 use table::Reason;
@@ -55,22 +57,30 @@ struct Replayed {
     pub machine: Machine,
 }
 
-// A record's line. Room was asked for before the first one, so that each is written.
-fn put_refused(out: &mut [u8], at: usize, number: u64, why: Reason) -> usize
+// A record's line, in two parts: its number, and what follows. Room was asked for before the first one, so that each is
+// written.
+fn put_name(out: &mut [u8], at: usize, label: Label) -> usize
     requires { ⌜ at + lineRoom ≤ length (now out) ⌝ }
-    ensures text { λ r. ⌜ Put (now (out .entry)) (now (out .exit)) at r (outcomeText number (O.Refused why)) ⌝ }
-    ensures room { λ r. ⌜ r ≤ at + lineRoom ⌝ }
+    ensures { λ r. ⌜ Labelled (now (out .entry)) (now (out .exit)) at r label ⌝ }
 {
-    let code = why.refusal().number();
-    put_line(out, at, number, code, 0, 0).end()
+    put_label(out, at, label).end()
 }
 
-fn put_told(out: &mut [u8], at: usize, number: u64, x: u64, y: u64) -> usize
-    requires { ⌜ at + lineRoom ≤ length (now out) ⌝ }
-    ensures text { λ r. ⌜ Put (now (out .entry)) (now (out .exit)) at r (outcomeText number (accepted x y)) ⌝ }
-    ensures room { λ r. ⌜ r ≤ at + lineRoom ⌝ }
+fn put_refused(out: &mut [u8], at: usize, why: Reason) -> usize
+    requires { ⌜ at + restRoom ≤ length (now out) ⌝ }
+    ensures text { λ r. ⌜ Put (now (out .entry)) (now (out .exit)) at r (restOf (O.Refused why)) ⌝ }
+    ensures room { λ r. ⌜ r ≤ at + restRoom ⌝ }
 {
-    put_accepted(out, at, number, x, y).end()
+    let code = why.refusal().number();
+    put_refusal(out, at, code).end()
+}
+
+fn put_told(out: &mut [u8], at: usize, x: u64, y: u64) -> usize
+    requires { ⌜ at + restRoom ≤ length (now out) ⌝ }
+    ensures text { λ r. ⌜ Put (now (out .entry)) (now (out .exit)) at r (restOf (accepted x y)) ⌝ }
+    ensures room { λ r. ⌜ r ≤ at + restRoom ⌝ }
+{
+    put_values(out, at, x, y).end()
 }
 
 // A malformed state turns every record away, and stays as it is.
@@ -99,31 +109,31 @@ fn put_records(
     let mut core = core_afresh(machine.core());
     let broken = malformed(core, ThreadUsage::SLOTS);
     let mut threads = machine.ledger.threads;
-    let mut number = first;
+    let mut label = Label::of(first);
     let mut left = count;
     let mut from: usize = 0;
     let mut end = at;
     while 0 < left {
-        let line = number;
+        let second = put_name(out, end, label);
         let place = from;
-        number = number + 1;
+        label = label.next();
         from = from + 16;
         left = left - 1;
         let change = change_unless(broken, core, trace, place);
         match change {
             Change::Refused(why) => {
-                end = put_refused(out, end, line, why);
+                end = put_refused(out, second, why);
             }
             Change::Ran(counter) => {
                 let clock = core.timer.clock;
                 let after = timer_of(counter, clock);
                 core.timer = after;
-                end = put_told(out, end, line, 0, 0);
+                end = put_told(out, second, 0, 0);
             }
             Change::Told(timer, told) => {
                 let after = timer_afresh(timer);
                 core.timer = after;
-                end = put_told(out, end, line, told.x, told.y);
+                end = put_told(out, second, told.x, told.y);
             }
             Change::Enter(timer, operation, reading) => {
                 let after = timer_afresh(timer);
@@ -138,10 +148,10 @@ fn put_records(
                         let changed = usage_afresh(entry.usage);
                         core.books = booked;
                         threads[k] = changed;
-                        end = put_told(out, end, line, entry.cycles as u64, 0);
+                        end = put_told(out, second, entry.cycles as u64, 0);
                     }
                     Entered::Refused(_) => {
-                        end = put_refused(out, end, line, Reason::WontFit);
+                        end = put_refused(out, second, Reason::WontFit);
                     }
                 }
             }
@@ -149,7 +159,7 @@ fn put_records(
                 let k = machine::slot(thread, ThreadUsage::SLOTS);
                 let usage = threads[k];
                 let told = machine::ending::reported(usage);
-                end = put_told(out, end, line, told.x, told.y);
+                end = put_told(out, second, told.x, told.y);
             }
             Change::Fresh(timer) => {
                 let after = timer_afresh(timer);
@@ -160,7 +170,7 @@ fn put_records(
                     books: books,
                 };
                 threads = [ThreadUsage::new_idle(); ThreadUsage::SLOTS];
-                end = put_told(out, end, line, 0, 0);
+                end = put_told(out, second, 0, 0);
             }
         }
     }

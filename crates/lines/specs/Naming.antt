@@ -1,0 +1,65 @@
+-- A record's number, kept as text from line to line: what is kept, what is put, and that it is the number's.
+use Prim.Native.Nat.{ℕ, _+_, _*_, _/_, _%_, _≤_, _<_}
+use mathlib.Core.Path.{_≡_}
+use mathlib.Core.Bool.{Bool, cond, _||_}
+use mathlib.Core.Logic.{_⊎_}
+use mathlib.Core.List.{List, [], _∷_, _++_}
+use lib.ListN.{length, take, replicate}
+use lib.Seq.{sets}
+use lib.Dec.{ltb, leb, eqb}
+use Rattle.error.specs.declared.Refusal.the-variants.{NoSpace}
+use Rattle.error.specs.Numbers.{max64}
+use Rattle.lines.specs.declared.Written.{Written}
+use Rattle.lines.specs.declared.Written.the-variants as W
+use Rattle.lines.specs.declared.label.Label.{Label}
+use Rattle.lines.specs.Text.{decimal, lineRoom}
+use Rattle.lines.specs.Writing.{two}
+
+-- with no text, and with the head's digits
+abbrev pub bare : ℕ → ℕ → Label
+bare head pair = record { head = head; pair = pair; size = 0; text = replicate 8 0 }
+
+abbrev pub spelt : ℕ → ℕ → Label
+spelt head pair = record { head = head; pair = pair; size = length (decimal head); text = sets (replicate 8 0) 0 (decimal head) }
+
+-- a head of one digit to eight is kept as text
+unfoldable pub ofParts : ℕ → ℕ → Label
+ofParts head pair = cond (eqb head 0 || leb 100000000 head) (bare head pair) (spelt head pair)
+
+unfoldable pub labelOf : ℕ → Label
+labelOf n = ofParts (n / 100) (n % 100)
+
+-- one more; the last of all stays
+unfoldable pub nextLabel : Label → Label
+nextLabel l =
+    cond (ltb (l .pair) 99)
+    (record { head = l .head; pair = l .pair + 1; size = l .size; text = l .text })
+    (cond (eqb (l .head) max64) l (ofParts (l .head + 1) 0))
+
+-- its text can't be used
+unfoldable pub lost : Label → Bool
+lost l = (eqb (l .size) 0 || ltb 8 (l .size)) || ltb 99 (l .pair)
+
+unfoldable pub wholeOf : Label → ℕ
+wholeOf l = cond (leb (100 * l .head + l .pair) max64) (100 * l .head + l .pair) 0
+
+-- the number's digits, and a space
+unfoldable pub labelText : Label → List ℕ
+labelText l = cond (lost l) (decimal (wholeOf l)) (take (l .size) (l .text) ++ two (l .pair)) ++ 32 ∷ []
+
+-- what is put before, of which nothing is left once the line is whole
+unfoldable pub underneath : Label → List ℕ
+underneath l = cond (lost l) [] (l .text)
+
+unfoldable pub labelPut : List ℕ → ℕ → Label → List ℕ
+labelPut buffer at l = cond (ltb (length buffer) (at + lineRoom)) buffer (sets (sets buffer at (underneath l)) at (labelText l))
+
+unfoldable pub labelWritten : List ℕ → ℕ → Label → Written
+labelWritten buffer at l = cond (ltb (length buffer) (at + lineRoom)) (W.Refused NoSpace) (W.Accepted (at + length (labelText l)))
+
+-- a label of the number n
+pub record Named (l : Label) (n : ℕ) : Type 0 where
+  pub head : l .head ≡ n / 100
+  pub pair : l .pair ≡ n % 100
+  pub long : length (l .text) ≡ 8
+  pub digits : (l .size ≡ 0) ⊎ ((take (l .size) (l .text) ≡ decimal (l .head)) × (0 < l .head) × (l .size ≤ 8))

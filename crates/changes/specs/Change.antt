@@ -28,7 +28,7 @@ use Rattle.table.specs.Table.{table}
 use Rattle.changes.specs.declared.Change.{Change}
 use Rattle.changes.specs.declared.Change.the-variants as X
 
--- what the table let through is turned away only in a malformed state
+-- a run or a sample that the table let through is turned away only in a malformed state
 unfoldable pub ranChange : Ran → Change
 ranChange (R.Accepted counter) = X.Ran counter
 ranChange (R.Refused why) = X.Refused Why.Malformed

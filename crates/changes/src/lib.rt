@@ -30,7 +30,7 @@ use trace::Decoded;
 use trace::Setup;
 use units::Cycles;
 
-// What a record changes, and nothing that stays as it is.
+// What a record changes: only the parts of the state that are new.
 pub enum Change {
     // Nothing, and why.
     Refused(Reason),
@@ -45,7 +45,7 @@ pub enum Change {
     Fresh(Timer),
 }
 
-// What the table lets through, the entries below turn away only where the state is malformed.
+// A run or a sample that the table lets through is turned away only where the state is malformed.
 fn ran_change(answer: Ran) -> Change
     ensures { λ r. ⌜ r ≡ ranChange answer ⌝ }
 {

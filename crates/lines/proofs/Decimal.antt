@@ -42,7 +42,7 @@ more (suc m) h =
 pub two-digits : (n : ℕ) → 10 ≤ n → n < 100 → decimal n ≡ two n
 two-digits n h k = more n h ∙ ap (λ (t : List ℕ). t ++ ((48 + n % 10) ∷ [])) (one (n / 10) (omega arith))
 
--- both digits of a number below 100 from one product, which has the first in its low byte and the last in the high one
+-- both digits of a number below 100 as one number of two bytes: the first in the low byte, the last in the high one
 module _ (n : ℕ) (h : n < 100) where
   pair : 256 * n + 12336 - 2559 * (n * 103 / 1024) ≡ 256 * (48 + n % 10) + (48 + n / 10)
   pair = let tens : n * 103 / 1024 ≡ n / 10 = omega arith in rw tens (omega arith)

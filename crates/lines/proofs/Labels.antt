@@ -11,7 +11,7 @@ use borrow.Author.Tests.{le-ltb, ltb-false, leb-false, eqb-false}
 use Rattle.error.specs.declared.Refusal.the-variants.{NoSpace}
 use Rattle.lines.specs.declared.Written.the-variants as W
 use Rattle.lines.specs.declared.label.Label.{Label}
-use Rattle.lines.specs.Text.{decimal, lineRoom}
+use Rattle.lines.specs.Text.{decimal, lineRoom, roomyWritten}
 use Rattle.lines.specs.Writing.{two, Put, Below}
 use Rattle.lines.specs.Naming.{bare, ofParts, lost, wholeOf, labelText, underneath, labelPut, labelWritten}
 use Rattle.lines.proofs.Decimal.{size-most}
@@ -60,12 +60,12 @@ module _ (l : Label) where
 
 module _ (buffer : List ℕ) (at : ℕ) (l : Label) where
   pub no-room : {lacks : Bool} → lacks ≡ ltb (length buffer) (at + lineRoom) → lacks ≡ true → (W.Refused NoSpace ≡ labelWritten buffer at l) × (buffer ≡ labelPut buffer at l)
-  unfolding labelWritten labelPut
+  unfolding roomyWritten labelPut
   no-room asked e = rw (← asked, e) (refl, refl)
 
   -- the text stands over what was put before
   stands : {now : List ℕ} {end : ℕ} → at + lineRoom ≤ length buffer → Put (sets buffer at (underneath l)) now at end (labelText l) → (W.Accepted end ≡ labelWritten buffer at l) × (now ≡ labelPut buffer at l)
-  unfolding labelWritten labelPut
+  unfolding roomyWritten labelPut
   stands room put = rw (le-ltb (length buffer) (at + lineRoom) room) (ap W.Accepted (put .next), put .bytes)
 
   -- a number put as a whole

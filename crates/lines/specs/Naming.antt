@@ -1,4 +1,4 @@
--- A record's number, kept as text from line to line: what is kept, what is put, and that it is the number's.
+-- A record's number, kept as text from line to line: what is kept, what is put, and when a label is a number's.
 use Prim.Native.Nat.{ℕ, _+_, _*_, _/_, _%_, _≤_, _<_}
 use mathlib.Core.Path.{_≡_}
 use mathlib.Core.Bool.{Bool, cond, _||_}
@@ -7,12 +7,10 @@ use mathlib.Core.List.{List, [], _∷_, _++_}
 use lib.ListN.{length, take, replicate}
 use lib.Seq.{sets}
 use lib.Dec.{ltb, leb, eqb}
-use Rattle.error.specs.declared.Refusal.the-variants.{NoSpace}
 use Rattle.error.specs.Numbers.{max64}
 use Rattle.lines.specs.declared.Written.{Written}
-use Rattle.lines.specs.declared.Written.the-variants as W
 use Rattle.lines.specs.declared.label.Label.{Label}
-use Rattle.lines.specs.Text.{decimal, lineRoom}
+use Rattle.lines.specs.Text.{decimal, lineRoom, roomyWritten}
 use Rattle.lines.specs.Writing.{two}
 
 -- with no text, and with the head's digits
@@ -54,8 +52,8 @@ underneath l = cond (lost l) [] (l .text)
 unfoldable pub labelPut : List ℕ → ℕ → Label → List ℕ
 labelPut buffer at l = cond (ltb (length buffer) (at + lineRoom)) buffer (sets (sets buffer at (underneath l)) at (labelText l))
 
-unfoldable pub labelWritten : List ℕ → ℕ → Label → Written
-labelWritten buffer at l = cond (ltb (length buffer) (at + lineRoom)) (W.Refused NoSpace) (W.Accepted (at + length (labelText l)))
+abbrev pub labelWritten : List ℕ → ℕ → Label → Written
+labelWritten buffer at l = roomyWritten lineRoom buffer at (labelText l)
 
 -- a label of the number n
 pub record Named (l : Label) (n : ℕ) : Type 0 where

@@ -38,7 +38,8 @@ pub(crate) fn places(number: u64) -> usize
     count + few
 }
 
-// Both digits, a zero in front too, as one number of two bytes: 103 / 1024 is a tenth, for numbers this small.
+// Both digits, a zero in front too, as one number of two bytes, the first digit in the low one. 12336 is the byte of 0
+// twice; each ten takes 10 from the high byte and adds 1 to the low one. 103 / 1024 is a tenth, for numbers this small.
 pub(crate) fn put_two(out: &mut [u8], at: usize, number: u32)
     requires { ⌜ Below (now out) at number 100 2 ⌝ }
     ensures { λ r. ⌜ now (out .exit) ≡ sets (now (out .entry)) at (two number) ⌝ }

@@ -71,7 +71,7 @@ impl Label {
     }
 }
 
-// 0 where it is no number of 64 bits.
+// The number that the two parts make; 0 where it has more than 64 bits.
 fn whole(head: u64, pair: u64) -> u64
     ensures { λ r. ⌜ r ≡ cond (leb (100 * head + pair) max64) (100 * head + pair) 0 ⌝ }
 {

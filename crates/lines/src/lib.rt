@@ -1,4 +1,5 @@
-// The output's lines, put into a lent buffer: a whole line, or nothing where it has no room.
+// The output's lines, put into a lent buffer, whole or what follows the number: all of it, or nothing where it has no
+// room.
 ghost use mathlib.Core.Path.{_≡_};
 ghost use Prim.Native.Nat.{_+_, _≤_};
 ghost use mathlib.Core.List.{[], _∷_, _++_};

@@ -8,6 +8,8 @@ use Rattle.error.specs.InOrder.{inOrder}
 use Rattle.usage.specs.declared.ThreadUsage.{ThreadUsage}
 use Rattle.usage.specs.Record.{newIdle}
 use Rattle.usage.specs.Leaves.{averageCycles}
+use Rattle.units.specs.declared.Cycles.{Cycles}
+use Rattle.counter.specs.declared.Counter.{Counter}
 use Rattle.counter.specs.Cycle.{runN}
 use Rattle.clock.specs.declared.Timer.{Timer}
 use Rattle.clock.specs.declared.SampleTaken.{SampleTaken}
@@ -17,11 +19,11 @@ use Rattle.clock.specs.Timer.{setup}
 use Rattle.clock.specs.Sample.{sampleValue}
 use Rattle.clock.specs.Announce.{announceOf}
 use Rattle.books.specs.declared.Books.{Books}
+use Rattle.books.specs.declared.Operation.{Operation}
 use Rattle.books.specs.declared.Entered.{Entered}
 use Rattle.books.specs.declared.Entered.the-variants as E
 use Rattle.books.specs.Enter.{concerned, entryOf, nothingBooked}
 use Rattle.ledger.specs.Operate.{freshOf}
-use Rattle.trace.specs.declared.Setup.{Setup}
 use Rattle.trace.specs.declared.Decoded.{Decoded}
 use Rattle.trace.specs.declared.Decoded.the-variants as D
 use Rattle.table.specs.declared.Core.{Core}
@@ -47,9 +49,6 @@ use Rattle.table.specs.Table.{malformed, table}
 abbrev pub accepted : ℕ → ℕ → Outcome
 accepted x y = O.Accepted (record { x = x; y = y })
 
-abbrev pub told : Core → ℕ → ℕ → Begun
-told c x y = record { next = N.Done (accepted x y); core = c }
-
 -- turned away: 0 0
 abbrev pub turned : Core → Reason → Begun
 turned c why = record { next = N.Done (O.Refused why); core = c }
@@ -60,33 +59,39 @@ withTimer c t = record { ready = c .ready; timer = t; books = c .books }
 abbrev pub withBooks : Core → Books → Core
 withBooks c b = record { ready = c .ready; timer = c .timer; books = b }
 
+abbrev pub toldBegun : Core → Timer → Values → Begun
+toldBegun c t values = record { next = N.Done (O.Accepted values); core = withTimer c t }
+
 -- Otherwise 0 0.
-abbrev pub runBegun : Core → ℕ → Begun
-runBegun c p = told (withTimer c (record { counter = runN p (c .timer .counter); clock = c .timer .clock })) 0 0
+abbrev pub ranBegun : Core → Counter → Begun
+ranBegun c counter = toldBegun c (record { counter = counter; clock = c .timer .clock }) (record { x = 0; y = 0 })
+
+abbrev pub enterBegun : Core → Timer → Operation → Cycles → Begun
+enterBegun c t op reading = record { next = N.Enter op reading; core = withTimer c t }
 
 -- Sample: elapsed, wrap. Kinds 3 to 7 go on at its reading.
 abbrev pub thenBegun : Core → Then → SampleTaken → Begun
-thenBegun c W.Tell taken = told (withTimer c (taken .timer)) (taken .elapsed) (cond (taken .wrap) 1 0)
-thenBegun c (W.Operate op) taken = record { next = N.Enter op (taken .reading); core = withTimer c (taken .timer) }
+thenBegun c W.Tell taken = toldBegun c (taken .timer) (record { x = taken .elapsed; y = cond (taken .wrap) 1 0 })
+thenBegun c (W.Operate op) taken = enterBegun c (taken .timer) op (taken .reading)
 
 -- Announce: dticks, announced. What the leaf refuses changes nothing.
 unfoldable pub announcedBegun : Core → Announced → Begun
-announcedBegun c (A.Accepted a) = told (withTimer c (a .timer)) (a .dticks .0) (a .timer .clock .announced .0)
+announcedBegun c (A.Accepted a) = toldBegun c (a .timer) (record { x = a .dticks .0; y = a .timer .clock .announced .0 })
 announcedBegun c (A.Refused why) = turned c (Why.NotAnnounced why)
 
 abbrev pub reportBegun : Core → ℕ → Begun
 reportBegun c i = record { next = N.Report i; core = c }
 
 -- Setup writes every field.
-abbrev pub setupBegun : Setup → Begun
-setupBegun s = record { next = N.Fresh; core = record { ready = true; timer = setup (s .period) (s .tick); books = nothingBooked } }
+abbrev pub freshBegun : Timer → Begun
+freshBegun t = record { next = N.Fresh; core = record { ready = true; timer = t; books = nothingBooked } }
 
 unfoldable pub effectOf : Core → Task → Begun
-effectOf c (T.Run p) = runBegun c p
+effectOf c (T.Run p) = ranBegun c (runN p (c .timer .counter))
 effectOf c (T.Sample g then) = thenBegun c then (sampleValue (c .timer) g)
 effectOf c T.Announce = announcedBegun c (announceOf (c .timer))
 effectOf c (T.Report i) = reportBegun c i
-effectOf c (T.Setup s) = setupBegun s
+effectOf c (T.Setup s) = freshBegun (setup (s .period) (s .tick))
 
 -- 01's table, and then the effect
 unfoldable pub taskBegun : Core → ℕ → Task → Begun

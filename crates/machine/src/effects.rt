@@ -1,7 +1,7 @@
 // The first part of a step: a record's change made to the core, and what is left to do.
 ghost use mathlib.Core.Path.{_≡_};
-ghost use Rattle.machine.specs.Step.{turned, withTimer};
-ghost use Rattle.machine.specs.Making.{ranBegun, toldBegun, enterBegun, freshBegun, begunBy};
+ghost use Rattle.machine.specs.Step.{turned, withTimer, toldBegun, ranBegun, enterBegun, freshBegun};
+ghost use Rattle.machine.specs.Making.{begunBy};
 use crate::Begun;
 use crate::Next;
 use books::Operation;

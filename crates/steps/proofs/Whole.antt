@@ -13,7 +13,7 @@ use Rattle.usage.specs.declared.ThreadUsage.{ThreadUsage}
 use Rattle.usage.specs.Record.{newIdle}
 use Rattle.counter.specs.Entries.{goodPeriod}
 use Rattle.clock.specs.declared.Announced.{Announced}
-use Rattle.clock.specs.Timer.{wellFormed}
+use Rattle.clock.specs.Timer.{setup, wellFormed}
 use Rattle.clock.specs.Announce.{announceOf}
 use Rattle.clock.proofs.Steps.{announced-by}
 use Rattle.books.specs.declared.Books.{Books}
@@ -40,7 +40,7 @@ use Rattle.table.specs.Task.{taskOf, askedBy}
 use Rattle.table.specs.Table.{malformed, table}
 use Rattle.machine.specs.declared.Begun.{Begun}
 use Rattle.machine.specs.declared.Machine.{Machine}
-use Rattle.machine.specs.Step.{turned, announcedBegun, setupBegun, effectOf, taskBegun, decodedBegun, beginOf, enteredStep, finishNext, coreOf, steppedFrom, stepFrom, stepOf}
+use Rattle.machine.specs.Step.{turned, announcedBegun, freshBegun, effectOf, taskBegun, decodedBegun, beginOf, enteredStep, finishNext, coreOf, steppedFrom, stepFrom, stepOf}
 use Rattle.machine.proofs.Accepting.{ready-of, formed-of}
 use Rattle.steps.specs.Laws.{Whole, StaysWhole}
 use Rattle.steps.proofs.Refusing.{recorded-of}
@@ -109,7 +109,7 @@ module _ (m : Machine) (whole : Whole m) where
   entered-leaves there k u (E.Refused why) formed recorded entry = stored _ k _ (whole-of _ slots formed recorded)
 
   -- a good setup makes a good timer, and nobody runs
-  setup-leaves : (s : Setup) (good : Bool) → goodPeriod (s .period) ≡ good → (zero : Bool) → eqb (s .tick) 0 ≡ zero → not (good && not zero) ≡ false → Leaves (setupBegun s)
+  setup-leaves : (s : Setup) (good : Bool) → goodPeriod (s .period) ≡ good → (zero : Bool) → eqb (s .tick) 0 ≡ zero → not (good && not zero) ≡ false → Leaves (freshBegun (setup (s .period) (s .tick)))
   unfolding finishNext unrecorded
   setup-leaves s true period false tick e =
       let above = eqb-false (s .tick) 0 tick in

@@ -35,8 +35,8 @@ use Rattle.changes.specs.declared.Change.{Change}
 use Rattle.changes.specs.declared.Change.the-variants as X
 use Rattle.machine.specs.declared.Machine.{Machine}
 use Rattle.machine.specs.declared.Stepped.{Stepped}
-use Rattle.machine.specs.Step.{accepted, turned, withTimer, withBooks, coreOf, beginOf, nextThread, slotOf, placeOf, enteredStep, reportOf, finishNext, machineOf, stepFrom, stepOf}
-use Rattle.machine.specs.Making.{toldBegun, ranBegun, begunBy}
+use Rattle.machine.specs.Step.{accepted, turned, toldBegun, ranBegun, withTimer, withBooks, coreOf, beginOf, nextThread, slotOf, placeOf, enteredStep, reportOf, finishNext, machineOf, stepFrom, stepOf}
+use Rattle.machine.specs.Making.{begunBy}
 use Rattle.machine.proofs.Changing.{same}
 use Rattle.steps.proofs.Keeping.{every-refusal}
 use Rattle.steps.proofs.Whole.{stays-whole}

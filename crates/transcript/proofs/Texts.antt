@@ -49,7 +49,7 @@ rest-stands o {buffer = buffer} {now = now} {at = at} {end = end} {x = x} {y = y
 
 -- a label, put where the longest line has room
 pub label-stands : {buffer now : List ℕ} {at end : ℕ} (l : Label) {written : Written} → at + lineRoom ≤ length buffer → written ≡ labelWritten buffer at l → now ≡ labelPut buffer at l → end ≡ writtenSays written .value → Labelled buffer now at end l
-unfolding labelWritten labelPut writtenSays
+unfolding roomyWritten labelPut writtenSays
 label-stands {buffer = buffer} {at = at} l room ew en ee =
     let there = le-ltb (length buffer) (at + lineRoom) room in
     record { next = rw (ee, ew, there) refl; bytes = en ∙ rw there refl }

@@ -1,4 +1,4 @@
--- What the private workers ask of their caller, and what the records' lines leave.
+-- What the loop's private workers answer and ask of their caller, and what the records' lines leave.
 use Prim.Native.Nat.{ℕ, _+_, _*_, _/_, _≤_}
 use mathlib.Core.Path.{_≡_}
 use mathlib.Core.Bool.{Bool, cond}

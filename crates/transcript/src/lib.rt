@@ -59,7 +59,7 @@ struct Replayed {
 
 // A record's line, in two parts: its number, and what follows. Room was asked for before the first one, so that each is
 // written.
-fn put_name(out: &mut [u8], at: usize, label: Label) -> usize
+fn put_line_number(out: &mut [u8], at: usize, label: Label) -> usize
     requires { ⌜ at + lineRoom ≤ length (now out) ⌝ }
     ensures { λ r. ⌜ Labelled (now (out .entry)) (now (out .exit)) at r label ⌝ }
 {
@@ -93,8 +93,9 @@ fn change_unless(broken: bool, core: Core, trace: &[u8], from: usize) -> Change
     changes::change_at(core, ThreadUsage::SLOTS, trace, from)
 }
 
-// The lines of so many records. The state stays in place, and each record writes only what it changes of it. Whether it
-// is malformed is asked once, since no record makes it so.
+// The lines of so many records. The state stays in place, and each record writes only the parts of it that are new:
+// counter and clock, the books, one thread record, or all at setup. Whether it is malformed is asked once, since no
+// record makes it so. It is one function since no other can be lent the state.
 fn put_records(
     machine: Machine,
     first: u64,
@@ -114,7 +115,7 @@ fn put_records(
     let mut from: usize = 0;
     let mut end = at;
     while 0 < left {
-        let second = put_name(out, end, label);
+        let second = put_line_number(out, end, label);
         let place = from;
         label = label.next();
         from = from + 16;
@@ -180,8 +181,8 @@ fn put_records(
     }
 }
 
-// Parts of the state, put together from their numbers. A copy would take along the unused bytes between them, from
-// record to record.
+// Parts of the state, put together from their numbers. A copy would take along the unused bytes between them: the core's
+// from the machine handed in, the others' from record to record.
 fn usage_afresh(usage: ThreadUsage) -> ThreadUsage
     ensures { λ r. ⌜ r ≡ usage ⌝ }
 {

@@ -1,4 +1,4 @@
--- `change_unless` asks the machine only where the state is whole.
+-- `change_unless` asks what the record changes only where the state is whole.
 use mathlib.Core.Path.{refl}
 use Rattle.transcript.specs.Room.{changeUnless}
 use borrow.Author.Needs.{needs}

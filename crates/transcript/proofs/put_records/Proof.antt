@@ -34,38 +34,38 @@ turn c =
     let n = simp length-map at (c .before .before .before .before .before .before .before .before .before .before .before .before .before .before .before .good .0 .1 .1 .1 .1 .0 .1 .1 .1 .0 .1 .0 .1) in
     record { slots = _; broken = _; table = l .inv .table ∙ n; form = sym (ap (malformed (l .core)) n) ∙ l .inv .form; made = c .change-unless .ensures }
 
-put-name-requires : tie.Need-put-name-requires Inv-loop μ-loop
-put-name-requires c κs = let h = c .before .before .loop .inv in omega arith
+put-line-number-requires : tie.Need-put-line-number-requires Inv-loop μ-loop
+put-line-number-requires c κs = let h = c .before .before .loop .inv in omega arith
 
 add-from : tie.Need-add-from Inv-loop μ-loop
 add-from c = let h = c .before .before .before .before .before .before .loop .inv in omega arith
 
 put-refused-requires : tie.Need-put-refused-requires Inv-loop μ-loop
-put-refused-requires c κs = rest-fits (c .before .before .before .before .before .before .before .before .before .before .before .loop .inv) (c .before .before .before .before .before .before .before .before .before .before .loop-test .taken) (c .before .before .before .before .before .before .before .before .put-name .ensures)
+put-refused-requires c κs = rest-fits (c .before .before .before .before .before .before .before .before .before .before .before .loop .inv) (c .before .before .before .before .before .before .before .before .before .before .loop-test .taken) (c .before .before .before .before .before .before .before .before .put-line-number .ensures)
 
 loop-less : tie.Need-loop-less Inv-loop μ-loop
 loop-less c = let some = c .before .before .before .before .before .before .before .before .before .before .before .before .before .loop-test .taken in omega arith
 
 loop-again : tie.Need-loop-again Inv-loop μ-loop
-loop-again c = let l = c .before .before .before .before .before .before .before .before .before .before .before .before .before .before .loop in goes-on (l .inv) (c .before .before .before .before .before .before .before .before .before .before .before .before .before .loop-test .taken) (c .before .before .before .before .before .before .before .before .before .before .before .put-name .ensures) (refused (turn (c .before .before .before .before .before .before .before)) (c .before .before .before .before .before .change .given .1)) (c .before .before .put-refused .ensures .0) (c .before .before .put-refused .ensures .1) (c .before .before .before .before .before .before .before .before .next .ensures) (l .inv .table)
+loop-again c = let l = c .before .before .before .before .before .before .before .before .before .before .before .before .before .before .loop in goes-on (l .inv) (c .before .before .before .before .before .before .before .before .before .before .before .before .before .loop-test .taken) (c .before .before .before .before .before .before .before .before .before .before .before .put-line-number .ensures) (refused (turn (c .before .before .before .before .before .before .before)) (c .before .before .before .before .before .change .given .1)) (c .before .before .put-refused .ensures .0) (c .before .before .put-refused .ensures .1) (c .before .before .before .before .before .before .before .before .next .ensures) (l .inv .table)
 
 put-told-requires : tie.Need-put-told-requires Inv-loop μ-loop
-put-told-requires c κs = rest-fits (c .before .before .before .before .before .before .before .before .before .before .before .before .before .loop .inv) (c .before .before .before .before .before .before .before .before .before .before .before .before .loop-test .taken) (c .before .before .before .before .before .before .before .before .before .before .put-name .ensures)
+put-told-requires c κs = rest-fits (c .before .before .before .before .before .before .before .before .before .before .before .before .before .loop .inv) (c .before .before .before .before .before .before .before .before .before .before .before .before .loop-test .taken) (c .before .before .before .before .before .before .before .before .before .before .put-line-number .ensures)
 
 loop-less-2 : tie.Need-loop-less-2 Inv-loop μ-loop
 loop-less-2 c = let some = c .before .before .before .before .before .before .before .before .before .before .before .before .before .before .before .loop-test .taken in omega arith
 
 loop-again-2 : tie.Need-loop-again-2 Inv-loop μ-loop
-loop-again-2 c = let l = c .before .before .before .before .before .before .before .before .before .before .before .before .before .before .before .before .loop in goes-on (l .inv) (c .before .before .before .before .before .before .before .before .before .before .before .before .before .before .before .loop-test .taken) (c .before .before .before .before .before .before .before .before .before .before .before .before .before .put-name .ensures) (ran (turn (c .before .before .before .before .before .before .before .before .before)) (c .before .before .before .before .before .before .before .change2 .given .1) (c .before .before .before .before .timer-of .ensures)) (c .before .before .put-told .ensures .0) (c .before .before .put-told .ensures .1) (c .before .before .before .before .before .before .before .before .before .before .next .ensures) (l .inv .table)
+loop-again-2 c = let l = c .before .before .before .before .before .before .before .before .before .before .before .before .before .before .before .before .loop in goes-on (l .inv) (c .before .before .before .before .before .before .before .before .before .before .before .before .before .before .before .loop-test .taken) (c .before .before .before .before .before .before .before .before .before .before .before .before .before .put-line-number .ensures) (ran (turn (c .before .before .before .before .before .before .before .before .before)) (c .before .before .before .before .before .before .before .change2 .given .1) (c .before .before .before .before .timer-of .ensures)) (c .before .before .put-told .ensures .0) (c .before .before .put-told .ensures .1) (c .before .before .before .before .before .before .before .before .before .before .next .ensures) (l .inv .table)
 
 put-told-requires-2 : tie.Need-put-told-requires-2 Inv-loop μ-loop
-put-told-requires-2 c κs = rest-fits (c .before .before .before .before .before .before .before .before .before .before .before .before .loop .inv) (c .before .before .before .before .before .before .before .before .before .before .before .loop-test .taken) (c .before .before .before .before .before .before .before .before .before .put-name .ensures)
+put-told-requires-2 c κs = rest-fits (c .before .before .before .before .before .before .before .before .before .before .before .before .loop .inv) (c .before .before .before .before .before .before .before .before .before .before .before .loop-test .taken) (c .before .before .before .before .before .before .before .before .before .put-line-number .ensures)
 
 loop-less-3 : tie.Need-loop-less-3 Inv-loop μ-loop
 loop-less-3 c = let some = c .before .before .before .before .before .before .before .before .before .before .before .before .before .before .loop-test .taken in omega arith
 
 loop-again-3 : tie.Need-loop-again-3 Inv-loop μ-loop
-loop-again-3 c = let l = c .before .before .before .before .before .before .before .before .before .before .before .before .before .before .before .loop in goes-on (l .inv) (c .before .before .before .before .before .before .before .before .before .before .before .before .before .before .loop-test .taken) (c .before .before .before .before .before .before .before .before .before .before .before .before .put-name .ensures) (told (turn (c .before .before .before .before .before .before .before .before)) (c .before .before .before .before .before .before .change3 .given .1) (c .before .before .before .before .timer-afresh .ensures)) (c .before .before .put-told2 .ensures .0) (c .before .before .put-told2 .ensures .1) (c .before .before .before .before .before .before .before .before .before .next .ensures) (l .inv .table)
+loop-again-3 c = let l = c .before .before .before .before .before .before .before .before .before .before .before .before .before .before .before .loop in goes-on (l .inv) (c .before .before .before .before .before .before .before .before .before .before .before .before .before .before .loop-test .taken) (c .before .before .before .before .before .before .before .before .before .before .before .before .put-line-number .ensures) (told (turn (c .before .before .before .before .before .before .before .before)) (c .before .before .before .before .before .before .change3 .given .1) (c .before .before .before .before .timer-afresh .ensures)) (c .before .before .put-told2 .ensures .0) (c .before .before .put-told2 .ensures .1) (c .before .before .before .before .before .before .before .before .before .next .ensures) (l .inv .table)
 
 mul-usage : tie.Need-mul-usage Inv-loop μ-loop
 mul-usage c = let h = slot-within _ (c .slot .ensures) (omega arith) in omega arith
@@ -80,22 +80,22 @@ array-set-from-threads : tie.Need-array-set-from-threads Inv-loop μ-loop
 array-set-from-threads c = slot-within _ (c .before .before .before .before .before .before .before .slot .ensures) (omega arith)
 
 put-told-requires-3 : tie.Need-put-told-requires-3 Inv-loop μ-loop
-put-told-requires-3 c κs = rest-fits (c .before .before .before .before .before .before .before .before .before .before .before .before .before .before .before .before .before .before .before .before .before .before .before .loop .inv) (c .before .before .before .before .before .before .before .before .before .before .before .before .before .before .before .before .before .before .before .before .before .before .loop-test .taken) (c .before .before .before .before .before .before .before .before .before .before .before .before .before .before .before .before .before .before .before .before .put-name .ensures)
+put-told-requires-3 c κs = rest-fits (c .before .before .before .before .before .before .before .before .before .before .before .before .before .before .before .before .before .before .before .before .before .before .before .loop .inv) (c .before .before .before .before .before .before .before .before .before .before .before .before .before .before .before .before .before .before .before .before .before .before .loop-test .taken) (c .before .before .before .before .before .before .before .before .before .before .before .before .before .before .before .before .before .before .before .before .put-line-number .ensures)
 
 loop-less-4 : tie.Need-loop-less-4 Inv-loop μ-loop
 loop-less-4 c = let some = c .before .before .before .before .before .before .before .before .before .before .before .before .before .before .before .before .before .before .before .before .before .before .before .before .before .loop-test .taken in omega arith
 
 loop-again-4 : tie.Need-loop-again-4 Inv-loop μ-loop
-loop-again-4 c = let l = c .before .before .before .before .before .before .before .before .before .before .before .before .before .before .before .before .before .before .before .before .before .before .before .before .before .before .loop in goes-on (l .inv) (c .before .before .before .before .before .before .before .before .before .before .before .before .before .before .before .before .before .before .before .before .before .before .before .before .before .loop-test .taken) (c .before .before .before .before .before .before .before .before .before .before .before .before .before .before .before .before .before .before .before .before .before .before .before .put-name .ensures) (entered (turn (c .before .before .before .before .before .before .before .before .before .before .before .before .before .before .before .before .before .before .before)) (c .before .before .before .before .before .before .before .before .before .before .before .before .before .before .before .before .before .change4 .given .1) (c .before .before .before .before .before .before .before .before .before .before .before .before .before .before .before .timer-afresh2 .ensures) (c .before .before .before .before .before .before .before .before .before .before .before .before .before .concerned .ensures) (c .before .before .before .before .before .before .before .before .before .before .before .before .slot .ensures) (c .before .before .before .before .before .before .before .before .before .before .enter .ensures) (c .before .before .before .before .before .before .before .before .entered .given .1) (c .before .before .before .before .before .before .books-afresh .ensures) (c .before .before .before .before .before .usage-afresh .ensures)) (c .before .before .put-told3 .ensures .0) (c .before .before .put-told3 .ensures .1) (c .before .before .before .before .before .before .before .before .before .before .before .before .before .before .before .before .before .before .before .before .next .ensures) (length-set (l .threads) (c .before .before .before .before .before .before .before .before .before .before .before .before .slot .result) (c .before .before .before .before .before .usage-afresh .result) ∙ l .inv .table)
+loop-again-4 c = let l = c .before .before .before .before .before .before .before .before .before .before .before .before .before .before .before .before .before .before .before .before .before .before .before .before .before .before .loop in goes-on (l .inv) (c .before .before .before .before .before .before .before .before .before .before .before .before .before .before .before .before .before .before .before .before .before .before .before .before .before .loop-test .taken) (c .before .before .before .before .before .before .before .before .before .before .before .before .before .before .before .before .before .before .before .before .before .before .before .put-line-number .ensures) (entered (turn (c .before .before .before .before .before .before .before .before .before .before .before .before .before .before .before .before .before .before .before)) (c .before .before .before .before .before .before .before .before .before .before .before .before .before .before .before .before .before .change4 .given .1) (c .before .before .before .before .before .before .before .before .before .before .before .before .before .before .before .timer-afresh2 .ensures) (c .before .before .before .before .before .before .before .before .before .before .before .before .before .concerned .ensures) (c .before .before .before .before .before .before .before .before .before .before .before .before .slot .ensures) (c .before .before .before .before .before .before .before .before .before .before .enter .ensures) (c .before .before .before .before .before .before .before .before .entered .given .1) (c .before .before .before .before .before .before .books-afresh .ensures) (c .before .before .before .before .before .usage-afresh .ensures)) (c .before .before .put-told3 .ensures .0) (c .before .before .put-told3 .ensures .1) (c .before .before .before .before .before .before .before .before .before .before .before .before .before .before .before .before .before .before .before .before .next .ensures) (length-set (l .threads) (c .before .before .before .before .before .before .before .before .before .before .before .before .slot .result) (c .before .before .before .before .before .usage-afresh .result) ∙ l .inv .table)
 
 put-refused-requires-2 : tie.Need-put-refused-requires-2 Inv-loop μ-loop
-put-refused-requires-2 c κs = rest-fits (c .before .before .before .before .before .before .before .before .before .before .before .before .before .before .before .before .before .before .before .loop .inv) (c .before .before .before .before .before .before .before .before .before .before .before .before .before .before .before .before .before .before .loop-test .taken) (c .before .before .before .before .before .before .before .before .before .before .before .before .before .before .before .before .put-name .ensures)
+put-refused-requires-2 c κs = rest-fits (c .before .before .before .before .before .before .before .before .before .before .before .before .before .before .before .before .before .before .before .loop .inv) (c .before .before .before .before .before .before .before .before .before .before .before .before .before .before .before .before .before .before .loop-test .taken) (c .before .before .before .before .before .before .before .before .before .before .before .before .before .before .before .before .put-line-number .ensures)
 
 loop-less-5 : tie.Need-loop-less-5 Inv-loop μ-loop
 loop-less-5 c = let some = c .before .before .before .before .before .before .before .before .before .before .before .before .before .before .before .before .before .before .before .before .before .loop-test .taken in omega arith
 
 loop-again-5 : tie.Need-loop-again-5 Inv-loop μ-loop
-loop-again-5 c = let l = c .before .before .before .before .before .before .before .before .before .before .before .before .before .before .before .before .before .before .before .before .before .before .loop in goes-on (l .inv) (c .before .before .before .before .before .before .before .before .before .before .before .before .before .before .before .before .before .before .before .before .before .loop-test .taken) (c .before .before .before .before .before .before .before .before .before .before .before .before .before .before .before .before .before .before .before .put-name .ensures) (not-entered (turn (c .before .before .before .before .before .before .before .before .before .before .before .before .before .before .before)) (c .before .before .before .before .before .before .before .before .before .before .before .before .before .change4 .given .1) (c .before .before .before .before .before .before .before .before .before .before .before .timer-afresh2 .ensures) (c .before .before .before .before .before .before .before .before .before .concerned .ensures) (c .before .before .before .before .before .before .before .before .slot .ensures) (c .before .before .before .before .before .before .enter .ensures) (c .before .before .before .before .enum-told .given .1)) (c .before .before .put-refused2 .ensures .0) (c .before .before .put-refused2 .ensures .1) (c .before .before .before .before .before .before .before .before .before .before .before .before .before .before .before .before .next .ensures) (l .inv .table)
+loop-again-5 c = let l = c .before .before .before .before .before .before .before .before .before .before .before .before .before .before .before .before .before .before .before .before .before .before .loop in goes-on (l .inv) (c .before .before .before .before .before .before .before .before .before .before .before .before .before .before .before .before .before .before .before .before .before .loop-test .taken) (c .before .before .before .before .before .before .before .before .before .before .before .before .before .before .before .before .before .before .before .put-line-number .ensures) (not-entered (turn (c .before .before .before .before .before .before .before .before .before .before .before .before .before .before .before)) (c .before .before .before .before .before .before .before .before .before .before .before .before .before .change4 .given .1) (c .before .before .before .before .before .before .before .before .before .before .before .timer-afresh2 .ensures) (c .before .before .before .before .before .before .before .before .before .concerned .ensures) (c .before .before .before .before .before .before .before .before .slot .ensures) (c .before .before .before .before .before .before .enter .ensures) (c .before .before .before .before .enum-told .given .1)) (c .before .before .put-refused2 .ensures .0) (c .before .before .put-refused2 .ensures .1) (c .before .before .before .before .before .before .before .before .before .before .before .before .before .before .before .before .next .ensures) (l .inv .table)
 
 mul-usage-2 : tie.Need-mul-usage-2 Inv-loop μ-loop
 mul-usage-2 c = let h = slot-within _ (c .slot2 .ensures) (omega arith) in omega arith
@@ -104,22 +104,22 @@ array-copy-out-usage-2 : tie.Need-array-copy-out-usage-2 Inv-loop μ-loop
 array-copy-out-usage-2 c = slot-within _ (c .slot2 .ensures) (omega arith)
 
 put-told-requires-4 : tie.Need-put-told-requires-4 Inv-loop μ-loop
-put-told-requires-4 c κs = rest-fits (c .before .before .before .before .before .before .before .before .before .before .before .before .before .before .loop .inv) (c .before .before .before .before .before .before .before .before .before .before .before .before .before .loop-test .taken) (c .before .before .before .before .before .before .before .before .before .before .before .put-name .ensures)
+put-told-requires-4 c κs = rest-fits (c .before .before .before .before .before .before .before .before .before .before .before .before .before .before .loop .inv) (c .before .before .before .before .before .before .before .before .before .before .before .before .before .loop-test .taken) (c .before .before .before .before .before .before .before .before .before .before .before .put-line-number .ensures)
 
 loop-less-6 : tie.Need-loop-less-6 Inv-loop μ-loop
 loop-less-6 c = let some = c .before .before .before .before .before .before .before .before .before .before .before .before .before .before .before .before .loop-test .taken in omega arith
 
 loop-again-6 : tie.Need-loop-again-6 Inv-loop μ-loop
-loop-again-6 c = let l = c .before .before .before .before .before .before .before .before .before .before .before .before .before .before .before .before .before .loop in goes-on (l .inv) (c .before .before .before .before .before .before .before .before .before .before .before .before .before .before .before .before .loop-test .taken) (c .before .before .before .before .before .before .before .before .before .before .before .before .before .before .put-name .ensures) (reported (turn (c .before .before .before .before .before .before .before .before .before .before)) (c .before .before .before .before .before .before .before .before .change5 .given .1) (c .before .before .before .before .before .before .slot2 .ensures) (c .before .before .before .before .reported .ensures)) (c .before .before .put-told4 .ensures .0) (c .before .before .put-told4 .ensures .1) (c .before .before .before .before .before .before .before .before .before .before .before .next .ensures) (l .inv .table)
+loop-again-6 c = let l = c .before .before .before .before .before .before .before .before .before .before .before .before .before .before .before .before .before .loop in goes-on (l .inv) (c .before .before .before .before .before .before .before .before .before .before .before .before .before .before .before .before .loop-test .taken) (c .before .before .before .before .before .before .before .before .before .before .before .before .before .before .put-line-number .ensures) (reported (turn (c .before .before .before .before .before .before .before .before .before .before)) (c .before .before .before .before .before .before .before .before .change5 .given .1) (c .before .before .before .before .before .before .slot2 .ensures) (c .before .before .before .before .reported .ensures)) (c .before .before .put-told4 .ensures .0) (c .before .before .put-told4 .ensures .1) (c .before .before .before .before .before .before .before .before .before .before .before .next .ensures) (l .inv .table)
 
 put-told-requires-5 : tie.Need-put-told-requires-5 Inv-loop μ-loop
-put-told-requires-5 c κs = rest-fits (c .before .before .before .before .before .before .before .before .before .before .before .before .before .before .loop .inv) (c .before .before .before .before .before .before .before .before .before .before .before .before .before .loop-test .taken) (c .before .before .before .before .before .before .before .before .before .before .before .put-name .ensures)
+put-told-requires-5 c κs = rest-fits (c .before .before .before .before .before .before .before .before .before .before .before .before .before .before .loop .inv) (c .before .before .before .before .before .before .before .before .before .before .before .before .before .loop-test .taken) (c .before .before .before .before .before .before .before .before .before .before .before .put-line-number .ensures)
 
 loop-less-7 : tie.Need-loop-less-7 Inv-loop μ-loop
 loop-less-7 c = let some = c .before .before .before .before .before .before .before .before .before .before .before .before .before .before .before .before .loop-test .taken in omega arith
 
 loop-again-7 : tie.Need-loop-again-7 Inv-loop μ-loop
-loop-again-7 c = let l = c .before .before .before .before .before .before .before .before .before .before .before .before .before .before .before .before .before .loop in goes-on (l .inv) (c .before .before .before .before .before .before .before .before .before .before .before .before .before .before .before .before .loop-test .taken) (c .before .before .before .before .before .before .before .before .before .before .before .before .before .before .put-name .ensures) (all-fresh (turn (c .before .before .before .before .before .before .before .before .before .before)) (turn (c .before .before .before .before .before .before .before .before .before .before) .table) (c .before .before .before .before .before .before .before .before .change6 .given .1) (c .before .before .before .before .before .before .timer-afresh3 .ensures) (c .before .before .before .before .before .nothing-booked .ensures) (c .before .before .before .before .new-idle .ensures)) (c .before .before .put-told5 .ensures .0) (c .before .before .put-told5 .ensures .1) (c .before .before .before .before .before .before .before .before .before .before .before .next .ensures) (sym (turn (c .before .before .before .before .before .before .before .before .before .before) .table) ∙ l .inv .table)
+loop-again-7 c = let l = c .before .before .before .before .before .before .before .before .before .before .before .before .before .before .before .before .before .loop in goes-on (l .inv) (c .before .before .before .before .before .before .before .before .before .before .before .before .before .before .before .before .loop-test .taken) (c .before .before .before .before .before .before .before .before .before .before .before .before .before .before .put-line-number .ensures) (all-fresh (turn (c .before .before .before .before .before .before .before .before .before .before)) (turn (c .before .before .before .before .before .before .before .before .before .before) .table) (c .before .before .before .before .before .before .before .before .change6 .given .1) (c .before .before .before .before .before .before .timer-afresh3 .ensures) (c .before .before .before .before .before .nothing-booked .ensures) (c .before .before .before .before .new-idle .ensures)) (c .before .before .put-told5 .ensures .0) (c .before .before .put-told5 .ensures .1) (c .before .before .before .before .before .before .before .before .before .before .before .next .ensures) (sym (turn (c .before .before .before .before .before .before .before .before .before .before) .table) ∙ l .inv .table)
 
 same-length : tie.Need-same-length Inv-loop μ-loop
 same-length c = c .before .before .loop .inv .kept
@@ -128,4 +128,4 @@ returns : tie.Need-returns Inv-loop μ-loop
 returns c = let named : Named (c .before .before .before .of .result) (c .before .before .before .before .before .before .before .before .before .before .args .first) = rw (c .before .before .before .of .ensures) (of-named (c .before .before .before .before .before .before .before .before .before .before .args .first)) in rw (c .together .ensures) (ended (c .before .before .before .before .before .before .core-afresh .ensures ∙ c .before .before .before .before .before .before .before .core .ensures) (counts named) (c .before .before .loop .inv) (c .before .loop-test .left))
 
 pub put-records-spec : {M : Type 1} → statement M
-put-records-spec = tie.close (tie.spec Inv-loop μ-loop (λ c κs. search needs) (λ c κs. search needs) (λ c κs. search needs) (λ c κs. search needs) loop-holds put-name-requires (λ c κs. search needs) add-from (λ c. search needs) (λ c κs. search needs) (λ c. search needs) put-refused-requires loop-less loop-again (λ c. search needs) (λ c κs. search needs) put-told-requires loop-less-2 loop-again-2 (λ c. search needs) (λ c κs. search needs) put-told-requires-2 loop-less-3 loop-again-3 (λ c. search needs) (λ c κs. search needs) (λ c κs. search needs) (λ c κs. search needs) mul-usage array-copy-out-usage (λ c κs. search needs) (λ c. search needs) (λ c κs. search needs) (λ c κs. search needs) mul-threads array-set-from-threads (λ c. search needs) put-told-requires-3 loop-less-4 loop-again-4 (λ c. search needs) put-refused-requires-2 loop-less-5 loop-again-5 (λ c. search needs) (λ c κs. search needs) mul-usage-2 array-copy-out-usage-2 (λ c κs. search needs) put-told-requires-4 loop-less-6 loop-again-6 (λ c. search needs) (λ c κs. search needs) (λ c κs. search needs) (λ c κs. search needs) put-told-requires-5 loop-less-7 loop-again-7 (λ c κs. search needs) same-length returns)
+put-records-spec = tie.close (tie.spec Inv-loop μ-loop (λ c κs. search needs) (λ c κs. search needs) (λ c κs. search needs) (λ c κs. search needs) loop-holds put-line-number-requires (λ c κs. search needs) add-from (λ c. search needs) (λ c κs. search needs) (λ c. search needs) put-refused-requires loop-less loop-again (λ c. search needs) (λ c κs. search needs) put-told-requires loop-less-2 loop-again-2 (λ c. search needs) (λ c κs. search needs) put-told-requires-2 loop-less-3 loop-again-3 (λ c. search needs) (λ c κs. search needs) (λ c κs. search needs) (λ c κs. search needs) mul-usage array-copy-out-usage (λ c κs. search needs) (λ c. search needs) (λ c κs. search needs) (λ c κs. search needs) mul-threads array-set-from-threads (λ c. search needs) put-told-requires-3 loop-less-4 loop-again-4 (λ c. search needs) put-refused-requires-2 loop-less-5 loop-again-5 (λ c. search needs) (λ c κs. search needs) mul-usage-2 array-copy-out-usage-2 (λ c κs. search needs) put-told-requires-4 loop-less-6 loop-again-6 (λ c. search needs) (λ c κs. search needs) (λ c κs. search needs) (λ c κs. search needs) put-told-requires-5 loop-less-7 loop-again-7 (λ c κs. search needs) same-length returns)

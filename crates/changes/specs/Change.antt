@@ -1,4 +1,4 @@
--- What a record changes of counter and clock: 01's table, and then the record's effect, for a state that was found whole.
+-- What a record changes of counter and clock: 01's table, and then the record's effect, for a state that was found whole. Made to the core it is a step's first part (`same` in crates/machine/proofs/Changing.antt).
 use Prim.Native.Nat.{ℕ}
 use mathlib.Core.Bool.{cond}
 use Rattle.error.specs.InOrder.{inOrder}

@@ -96,6 +96,14 @@ size-four n h k = ap length (four-digits n h k)
 size-more : (n : ℕ) → 10 ≤ n → length (decimal n) ≡ length (decimal (n / 10)) + 1
 size-more n h = ap length (more n h) ∙ length-append (decimal (n / 10)) ((48 + n % 10) ∷ [])
 
+-- a number has a digit
+pub some-digits : (n : ℕ) → 1 ≤ length (decimal n)
+some-digits n = by-test (ltb n 10) refl
+  where
+    by-test : (b : Bool) → ltb n 10 ≡ b → 1 ≤ length (decimal n)
+    by-test true e = let s = size-one n (ltb-true n 10 e) in omega arith
+    by-test false e = let s = size-more n (ltb-false n 10 e) in omega arith
+
 pub size-by-four : (n : ℕ) → 10000 ≤ n → length (decimal n) ≡ length (decimal (n / 10000)) + 4
 size-by-four n h = ap length (by-four n h) ∙ length-append (decimal (n / 10000)) (four (n % 10000))
 

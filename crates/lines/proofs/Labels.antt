@@ -50,7 +50,7 @@ module _ (head pair : ℕ) where
 
 -- what is put where the text can't be used, and where it can
 module _ (l : Label) where
-  text-lost : lost l ≡ true → (underneath l ≡ []) × (labelText l ≡ decimal (wholeOf l) ++ 32 ∷ [])
+  text-lost : lost l ≡ true → (underneath l ≡ []) × (labelText l ≡ decimal (wholeOf (l .head) (l .pair)) ++ 32 ∷ [])
   unfolding underneath labelText
   text-lost e = rw e (refl, refl)
 
@@ -69,7 +69,7 @@ module _ (buffer : List ℕ) (at : ℕ) (l : Label) where
   stands room put = rw (le-ltb (length buffer) (at + lineRoom) room) (ap W.Accepted (put .next), put .bytes)
 
   -- a number put as a whole
-  pub whole-number : {now : List ℕ} {end : ℕ} → at + lineRoom ≤ length buffer → lost l ≡ true → Put buffer now at end (decimal (wholeOf l) ++ 32 ∷ []) → (W.Accepted end ≡ labelWritten buffer at l) × (now ≡ labelPut buffer at l)
+  pub whole-number : {now : List ℕ} {end : ℕ} → at + lineRoom ≤ length buffer → lost l ≡ true → Put buffer now at end (decimal (wholeOf (l .head) (l .pair)) ++ 32 ∷ []) → (W.Accepted end ≡ labelWritten buffer at l) × (now ≡ labelPut buffer at l)
   whole-number {now} {end} room e put = stands room (rw (text-lost l e .0, text-lost l e .1) put)
 
 -- what is known where the text is used

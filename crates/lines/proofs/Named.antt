@@ -92,7 +92,7 @@ next-named l n named below = by-test (ltb (l .pair) 99) refl
         rw (ne-eqb (l .head) max64 (λ q. omega arith)) (parts-named (l .head + 1) 0 (n + 1) (omega arith) (omega arith))
 
 -- where the text is not used, the number is made anew
-whole-named : (l : Label) (n : ℕ) → Named l n → n ≤ max64 → wholeOf l ≡ n
+whole-named : (l : Label) (n : ℕ) → Named l n → n ≤ max64 → wholeOf (l .head) (l .pair) ≡ n
 unfolding wholeOf
 whole-named l n named most =
     let whole : 100 * l .head + l .pair ≡ n = let h = named .head in let p = named .pair in omega arith in
@@ -114,7 +114,7 @@ pub named-text : (l : Label) (n : ℕ) → Named l n → n ≤ max64 → labelTe
 unfolding labelText
 named-text l n named most = by-test (lost l) refl
   where
-    by-test : (b : Bool) → lost l ≡ b → cond b (decimal (wholeOf l)) (take (l .size) (l .text) ++ two (l .pair)) ++ 32 ∷ [] ≡ decimal n ++ 32 ∷ []
+    by-test : (b : Bool) → lost l ≡ b → cond b (decimal (wholeOf (l .head) (l .pair))) (take (l .size) (l .text) ++ two (l .pair)) ++ 32 ∷ [] ≡ decimal n ++ 32 ∷ []
     by-test true e = rw (whole-named l n named most)
     by-test false e = rw (text-named l n named e)
 

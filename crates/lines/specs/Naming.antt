@@ -38,12 +38,13 @@ nextLabel l =
 unfoldable pub lost : Label → Bool
 lost l = (eqb (l .size) 0 || ltb 8 (l .size)) || ltb 99 (l .pair)
 
-unfoldable pub wholeOf : Label → ℕ
-wholeOf l = cond (leb (100 * l .head + l .pair) max64) (100 * l .head + l .pair) 0
+-- the number that the two parts make; 0 where it has more than 64 bits
+unfoldable pub wholeOf : ℕ → ℕ → ℕ
+wholeOf head pair = cond (leb (100 * head + pair) max64) (100 * head + pair) 0
 
 -- the number's digits, and a space
 unfoldable pub labelText : Label → List ℕ
-labelText l = cond (lost l) (decimal (wholeOf l)) (take (l .size) (l .text) ++ two (l .pair)) ++ 32 ∷ []
+labelText l = cond (lost l) (decimal (wholeOf (l .head) (l .pair))) (take (l .size) (l .text) ++ two (l .pair)) ++ 32 ∷ []
 
 -- what is put before, of which nothing is left once the line is whole
 unfoldable pub underneath : Label → List ℕ

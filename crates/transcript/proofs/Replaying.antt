@@ -93,8 +93,8 @@ module _ {m₀ : Machine} {n₀ : ℕ} {ds₀ : List Decoded} {slots : ℕ} {bro
     -- what follows the number has its room
     pub rest-fits : second + restRoom ≤ length between
     rest-fits =
-        let same : length between ≡ length out = ap length (labelled .bytes) ∙ (length-sets (sets out end (underneath label)) end (labelText label) ∙ length-sets out end (underneath label)) in
-        let next = labelled .next in
+        let same : length between ≡ length out = ap length (labelled .put .bytes) ∙ (length-sets (sets out end (underneath label)) end (labelText label) ∙ length-sets out end (underneath label)) in
+        let next = labelled .put .next in
         omega (arith, label-room label number (going .named) (omega (arith, going .numbers)), going .room, going .enough)
 
     module _ {o : Outcome} {m' : Machine} (stepped : stepOf m (decodeOf trace from) ≡ record { outcome = o; machine = m' }) {end' : ℕ} {out' : List ℕ} (follows : Put between out' second end' (restOf o)) (within : end' ≤ second + restRoom) {label' : Label} (onward : label' ≡ nextLabel label) where
@@ -102,7 +102,7 @@ module _ {m₀ : Machine} {n₀ : ℕ} {ds₀ : List Decoded} {slots : ℕ} {bro
       line = whole-line label number o (going .named) (omega (arith, going .numbers)) labelled follows
 
       line-within : end' ≤ end + lineRoom
-      line-within = let next = labelled .next in omega (arith, within, label-room label number (going .named) (omega (arith, going .numbers)))
+      line-within = let next = labelled .put .next in omega (arith, within, label-room label number (going .named) (omega (arith, going .numbers)))
 
       -- of what was left, this line and the lines after it
       this-line : linesFrom m number (recordsFrom (suc rest) trace from) ≡ outcomeText number o ++ linesFrom m' (suc number) (recordsFrom rest trace (from + 16))

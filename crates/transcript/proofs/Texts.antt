@@ -28,7 +28,7 @@ use Rattle.lines.specs.Naming.{labelText, underneath, labelPut, labelWritten, N
 use Rattle.lines.specs.Writing.{Put}
 use Rattle.transcript.specs.Room.{Labelled, Replays}
 use Rattle.transcript.specs.Replay.{machineAfter, outcomeText, restOf, wholeRecords, linesFrom, partRefused, partOf, partBuffer, lastRoom, mostBytes, lastText, lastOf, textFrom, traceText, roomFor, replayOf, replayedOf}
-use Rattle.lines.proofs.Decimal.{more, size-one, size-64}
+use Rattle.lines.proofs.Decimal.{some-digits, size-64}
 use Rattle.lines.proofs.Sizes.{line-size}
 use Rattle.lines.proofs.Named.{named-text, underneath-short, covered}
 use Rattle.lines.proofs.Stores.{then, in-parts}
@@ -52,16 +52,9 @@ pub label-stands : {buffer now : List ℕ} {at end : ℕ} (l : Label) {written :
 unfolding roomyWritten labelPut writtenSays
 label-stands {buffer = buffer} {at = at} l room ew en ee =
     let there = le-ltb (length buffer) (at + lineRoom) room in
-    record { next = rw (ee, ew, there) refl; bytes = en ∙ rw there refl }
+    record { put = record { next = rw (ee, ew, there) refl; bytes = en ∙ rw there refl } }
 
--- a number has a digit
-some-digits : (n : ℕ) → 1 ≤ length (decimal n)
-some-digits n = by-test (ltb n 10) refl
-  where
-    by-test : (b : Bool) → ltb n 10 ≡ b → 1 ≤ length (decimal n)
-    by-test true e = let s = size-one n (ltb-true n 10 e) in omega arith
-    by-test false e = let s = ap length (more n (ltb-false n 10 e)) ∙ length-append (decimal (n / 10)) ((48 + n % 10) ∷ []) in omega arith
-
+-- a number has a digit, with a sign or without
 some-signed : (z : ℤ) → 1 ≤ length (signed z)
 unfolding signed
 some-signed (pos n) = some-digits n
@@ -85,10 +78,10 @@ module _ {before between after : List ℕ} {at second end : ℕ} (l : Label) (n 
 
   pub whole-line : Put before after at end (outcomeText n o)
   whole-line = record {
-    next = let h = label .next in let k = rest .next in let size = ap length parts in omega (arith, length-append (labelText l) (restOf o));
+    next = let h = label .put .next in let k = rest .next in let size = ap length parts in omega (arith, length-append (labelText l) (restOf o));
     bytes =
         rest .bytes ∙
-        rw (label .bytes, label .next)
+        rw (label .put .bytes, label .put .next)
         (sym (in-parts (sets before at (underneath l)) at (labelText l) (restOf o)) ∙
         (covered before at (underneath l) (labelText l ++ restOf o) long-enough ∙ ap (sets before at) parts));
   }

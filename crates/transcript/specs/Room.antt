@@ -18,15 +18,15 @@ use Rattle.transcript.specs.Replay.{recordsFrom, machineAfter, linesFrom
 use Rattle.lines.specs.declared.label.Label.{Label}
 use Rattle.lines.specs.Text.{lineRoom}
 use Rattle.lines.specs.Naming.{labelText, underneath}
+use Rattle.lines.specs.Writing.{Put}
 
 -- what a record changes of a state that may be malformed
 unfoldable pub changeUnless : Bool → Core → ℕ → Decoded → Change
 changeUnless broken c slots d = cond broken (X.Refused Why.Malformed) (changeOf c slots d)
 
--- the label stands in the buffer over what was put before it, and `end` is the place after it
+-- the label stands in the buffer over what was put underneath it, and `end` is the place after it
 pub record Labelled (before now : List ℕ) (at end : ℕ) (l : Label) : Type 0 where
-  pub next : end ≡ at + length (labelText l)
-  pub bytes : now ≡ sets (sets before at (underneath l)) at (labelText l)
+  pub put : Put (sets before at (underneath l)) now at end (labelText l)
 
 -- the numbers fit, and so do the longest lines
 pub record HasRoom (first count : ℕ) (out : List ℕ) (at : ℕ) : Type 0 where

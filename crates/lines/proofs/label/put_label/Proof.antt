@@ -3,7 +3,7 @@ use mathlib.Core.Path.{_∙_}
 use native.Mathlib.Omega.{arith}
 use borrow.Author.Needs.{needs}
 use lib.ListN.{length, length-map, length-set}
-use Rattle.lines.specs.Naming.{lost, wholeOf}
+use Rattle.lines.specs.Naming.{lost}
 use Rattle.lines.proofs.Decimal.{size-64}
 use Rattle.lines.proofs.Labels.{no-room, whole-number, Kept, kept, pair-room, space-room, accepted}
 use Rattle.lines.proofs.Parts.{there}
@@ -37,7 +37,7 @@ whole-room c κs =
     record { room = omega (arith, size-64 (c .before .whole .result) (omega arith)) }
 
 whole-put : tie.Need-returns-2
-unfolding lost wholeOf
+unfolding lost
 whole-put c =
     let a = c .before .before .before .before .before .before .before .before .before .before .args in
     let room = there (a .at) 75 (length (a .out .now)) (c .before .before .before .before .before .before .before .before .lacks-room .ensures) (c .before .before .before .before .before .before .before .if1 .left) in

@@ -1,5 +1,5 @@
 #!/bin/sh
-# cc.sh OUT SOURCE..: compiles C for x86-64 and links it with the proved archive of `rt staticlib tickclock`; tools/run.sh runs it.
+# cc.sh OUT [OPTION..] SOURCE..: compiles C for x86-64 and links it with the proved archive of `rt staticlib tickclock`; tools/run.sh runs it.
 set -eu
 here=$(cd "$(dirname "$0")" && pwd)
 archive=$here/../target/staticlib/libtickclock.a
@@ -14,8 +14,13 @@ tools=$(sh "$here/kit.sh")
 lib=$tools/lib
 room=$(mktemp -d)
 trap 'rm -rf "$room"' EXIT
+options=
+while case $1 in -*) true ;; *) false ;; esac; do
+    options="$options $1"
+    shift
+done
 for source in "$@"; do
-    "$tools/bin/clang" --target=x86_64-linux-gnu $strict -O1 -fPIC -I"$here/../include" \
+    "$tools/bin/clang" --target=x86_64-linux-gnu $strict -O1 -fPIC -I"$here/../include" $options \
         -isystem "$(gcc -print-file-name=include)" -isystem "/usr/include/$(gcc -print-multiarch)" -isystem /usr/include \
         -c "$source" -o "$room/$(basename "$source" .c).o"
 done

@@ -27,10 +27,17 @@ rm -rf target/firmware
 out=$room/firmware
 mkdir "$out"
 
+# step TEXT: says what is done now, since the proofs take minutes where nothing was proved before.
+step() {
+    printf 'firmware: %s\n' "$1"
+}
+
 # The kit alone makes the archive first; while the module is kept it must make the same, byte by byte of the whole file, which holds no dates.
 x86_64=target/staticlib/libtickclock.a
+step 'proving the exported functions and all below them'
 rt staticlib tickclock > "$room/said" 2>&1 || { cat "$room/said" >&2; exit 1; }
 mv "$x86_64" "$room/kit.a"
+step 'proving the exported functions once more, to keep the compiler'"'"'s module'
 sh tools/module.sh "$room/module.bc" rt staticlib tickclock
 mv "$x86_64" "$room/standin.a"
 mv "$room/kit.a" "$x86_64"
@@ -77,13 +84,16 @@ compiled() {
 }
 
 # The kit's clang is several programs, told apart by name.
-ln -s "$tools/bin/clang" "$room/llvm-nm"
+for program in llvm-nm llvm-objcopy; do ln -s "$tools/bin/clang" "$room/$program"; done
 : > "$room/sizes"
 : > "$room/instructions"
 while read -r name triple float; do
     dir=$out/$name
     mkdir "$dir"
+    step "compiling for $name"
     compiled "$triple" "$float" -c "$room/tickclock.o"
+    # No object of a bare-metal GCC or newlib has this section, and where one has it GNU ld warns of all that lack it.
+    "$room/llvm-objcopy" --remove-section=.note.GNU-stack "$room/tickclock.o"
     "$tools/bin/llvm-ar" rcsD "$dir/libtickclock.a" "$room/tickclock.o"
     "$room/llvm-nm" -j --defined-only --extern-only "$room/tickclock.o" | sort | diff - "$room/names" ||
         fail "$name: the archive has other names"

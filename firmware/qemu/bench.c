@@ -1,4 +1,4 @@
-/* bench.c: lines of text, numbers drawn from a seed. */
+/* bench.c: lines of text, numbers drawn from a seed, checks that are counted. */
 #include "bench.h"
 
 static char line[256];
@@ -61,4 +61,25 @@ uint32_t next(void)
     state ^= state >> 17;
     state ^= state << 5;
     return state;
+}
+
+static uint32_t checks;
+static uint32_t failed;
+
+void check(bool held)
+{
+    checks++;
+    if (!held) {
+        failed++;
+    }
+}
+
+void end_checks(void)
+{
+    add_number((int32_t)checks);
+    add(" checks, ");
+    add_number((int32_t)failed);
+    add(" failed");
+    end_line();
+    checks = failed = 0;
 }

@@ -1,7 +1,11 @@
-/* bench.h: what the benches share: lines of text, numbers drawn from a seed. */
+/*
+ * bench.h: what the benches share: lines of text, numbers drawn from a seed,
+ * checks that are counted.
+ */
 #ifndef BENCH_H
 #define BENCH_H
 
+#include <stdbool.h>
 #include <stddef.h>
 #include <stdint.h>
 
@@ -18,5 +22,9 @@ void end_line(void);
 
 /* The next number, by Marsaglia's shifts 13, 17, 5. */
 uint32_t next(void);
+
+/* Counts what held and what did not; end_checks ends the line with both. */
+void check(bool held);
+void end_checks(void);
 
 #endif

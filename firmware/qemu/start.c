@@ -82,10 +82,13 @@ void __aeabi_memcpy(void *to, const void *from, size_t n)
     memcpy(to, from, n);
 }
 
-/* The stack, and the system exceptions. No bench takes an interrupt. */
+/* Taken by the bench that has one; to any other the exception is a fault. */
+__attribute__((weak, alias("fault"))) void systick_handler(void);
+
+/* The stack, and the system exceptions, of which SysTick's is the last. */
 __attribute__((section(".vectors"), used)) static const struct {
     uint32_t *stack;
     void (*handlers[15])(void);
 } vectors = { &stack_top,
               { reset, fault, fault, fault, fault, fault, fault, fault, fault,
-                fault, fault, fault, fault, fault, fault } };
+                fault, fault, fault, fault, fault, systick_handler } };

@@ -7,7 +7,7 @@
  * processor and for a slow one.
  */
 #include "bench.h"
-#include "systick_clock.h"
+#include "timers.h"
 
 #define SAMPLES 6000
 #define SWITCHES 500
@@ -15,53 +15,14 @@
 /* A tick that no period is a multiple of. */
 #define TICK 11
 
-/* The timers are read one after the other, and count whole cycles. */
-#define SLACK 4
-
-#define REGISTER(address) (*(volatile uint32_t *)(address))
-
-#define SYSTICK ((struct systick_registers *)0xE000E010u)
-#define ICSR REGISTER(0xE000ED04u)
-#define PENDSTCLR (1u << 25)
-
-/* The dual timer: its first half counts down for ever, its second wakes us. */
-#define TIMER1_LOAD REGISTER(0x40002000u)
-#define TIMER1_VALUE REGISTER(0x40002004u)
-#define TIMER1_CONTROL REGISTER(0x40002008u)
-#define TIMER2_LOAD REGISTER(0x40002020u)
-#define TIMER2_CONTROL REGISTER(0x40002028u)
-#define TIMER2_INTCLR REGISTER(0x4000202Cu)
-#define TIMER2_RIS REGISTER(0x40002030u)
-#define TIMER_ENABLE (1u << 7)
-#define TIMER_INTERRUPT (1u << 5)
-#define TIMER_32_BITS (1u << 1)
-#define TIMER_ONE_SHOT (1u << 0)
-#define NVIC_ISER REGISTER(0xE000E100u)
-#define NVIC_ICPR REGISTER(0xE000E280u)
-#define DUAL_TIMER_IRQ (1u << 10)
-
-/* The counter of the board's FPGA, which counts up. */
-#define FPGA_COUNTER REGISTER(0x40028018u)
-#define FPGA_PRESCALE REGISTER(0x4002801Cu)
-
-static struct systick_clock clock;
+static struct systick_clock clk;
 static struct thread_usage threads[2];
 
 /* ---- What is checked ---- */
 
-static uint32_t checks;
-static uint32_t failed;
 static uint32_t lost;     /* cycles that late samples lost, in whole periods */
 static int32_t least;     /* the clock less another timer, lost ones apart */
 static int32_t greatest;
-
-static void check(bool held)
-{
-    checks++;
-    if (!held) {
-        failed++;
-    }
-}
 
 /*
  * Of a sample that is not late the clock shows what another timer shows. Of a
@@ -72,8 +33,8 @@ static void compare(uint32_t shown, uint32_t other, bool fair)
     int32_t ahead = (int32_t)(shown + lost - other);
 
     while (!fair && ahead < -SLACK) {
-        ahead += (int32_t)clock.load;
-        lost += clock.load;
+        ahead += (int32_t)clk.load;
+        lost += clk.load;
     }
     if (ahead < least) {
         least = ahead;
@@ -88,11 +49,6 @@ static void compare(uint32_t shown, uint32_t other, bool fair)
 
 static uint32_t begun; /* when the last sample began, by the dual timer */
 static uint32_t cost;  /* the most cycles that a wait and a sample take */
-
-static uint32_t dual(void)
-{
-    return ~TIMER1_VALUE;
-}
 
 /* Sleeps so many cycles, at least 1. The emulator leaps over them. */
 static void sleep(uint32_t cycles)
@@ -118,11 +74,11 @@ static void sleep(uint32_t cycles)
 static uint32_t wait(void)
 {
     const uint32_t needed = dual() - begun + cost + SLACK;
-    const uint32_t most = needed < clock.load ? clock.load - needed : 0;
+    const uint32_t most = needed < clk.load ? clk.load - needed : 0;
     const uint32_t random = next();
     uint32_t cycles = SYSTICK->VAL - (random >> 2) % (cost + 2);
 
-    if (random % 4 == 0 || cycles > clock.load) {
+    if (random % 4 == 0 || cycles > clk.load) {
         cycles = most > 0 ? next() % most : 0;
     }
     if (cycles > most) {
@@ -141,33 +97,46 @@ static uint32_t wait(void)
 /* A sample is late where two wraps may have come since the one before. */
 static bool in_time(uint32_t before)
 {
-    return dual() - before + SLACK < clock.load;
+    return dual() - before + SLACK < clk.load;
 }
 
 /* ---- Parts of a bench ---- */
 
 static void start(uint32_t load)
 {
-    check(systick_clock_start(&clock, SYSTICK, load, TICK) == TICKCLOCK_OK);
+    check(systick_clock_start(&clk, SYSTICK, load, TICK) == TICKCLOCK_OK);
     begun = dual();
 }
 
-/* Answers the ticks, and checks them against the last reading. */
-static uint32_t announce(uint64_t ticks, uint64_t now)
+/* Timed so that the dual timer is always read as long before. */
+__attribute__((noinline)) static void timed_sample(uint64_t *now)
 {
-    uint32_t more = 0;
+    begun = dual();
+    check(systick_clock_sample(&clk, now) == TICKCLOCK_OK);
+}
 
-    check(systick_clock_announce(&clock, &more) == TICKCLOCK_OK);
-    check(clock.announced_cycles == (ticks + more) * TICK);
-    check(clock.cycle_count - clock.announced_cycles < TICK);
-    check(now - clock.cycle_count < clock.load);
+__attribute__((noinline)) static void timed_switch(struct thread_usage *next_one)
+{
+    begun = dual();
+    check(systick_clock_switch(&clk, next_one) == TICKCLOCK_OK);
+}
+
+/* Answers the ticks, and checks them against the last reading. */
+static uint64_t announce(uint64_t ticks, uint64_t now)
+{
+    uint64_t more = 0;
+
+    check(systick_clock_announce(&clk, &more) == TICKCLOCK_OK);
+    check(clk.announced_cycles == (ticks + more) * TICK);
+    check(clk.cycle_count - clk.announced_cycles < TICK);
+    check(now - clk.cycle_count < clk.load);
     return more;
 }
 
 /* Whether there is time to announce between two samples. */
 static bool can_announce(void)
 {
-    return clock.load / 8 > cost;
+    return clk.load / 8 > cost;
 }
 
 /* Finds the cost: that of a switch, which is a sample and more, and a margin. */
@@ -179,7 +148,7 @@ static void measure(uint32_t load)
     for (int i = 0; i < 100; i++) {
         begun = dual();
         const uint32_t slept = wait();
-        check(systick_clock_switch(&clock, &threads[0]) == TICKCLOCK_OK);
+        check(systick_clock_switch(&clk, &threads[0]) == TICKCLOCK_OK);
         const uint32_t taken = dual() - begun - slept;
 
         if (taken > cost) {
@@ -210,7 +179,7 @@ static void sample(uint32_t load)
         const uint64_t last = now;
         const uint32_t fpga = FPGA_COUNTER;
         begun = dual();
-        const int32_t number = systick_clock_sample(&clock, &now);
+        const int32_t number = systick_clock_sample(&clk, &now);
         const bool fair = in_time(before);
 
         if (!fair) {
@@ -264,7 +233,7 @@ static void switch_threads(uint32_t load)
         wait();
         const uint32_t before = begun;
         begun = dual();
-        const int32_t number = systick_clock_switch(&clock, next_one);
+        const int32_t number = systick_clock_switch(&clk, next_one);
         const bool fair = in_time(before);
 
         check(number == TICKCLOCK_OK);
@@ -275,41 +244,64 @@ static void switch_threads(uint32_t load)
         }
         running = next_one;
         if (can_announce()) {
-            uint32_t more;
+            uint64_t more;
 
-            check(systick_clock_announce(&clock, &more) == TICKCLOCK_OK);
+            check(systick_clock_announce(&clk, &more) == TICKCLOCK_OK);
         }
     }
     check(threads[1].total_cycles == 0 && threads[0].num_windows == 1);
 }
 
 /*
- * With the largest period 255 wraps can be counted, and then a sample asks for
- * an announcement. That it asks before it reads the flag shows in the reading
- * afterwards.
+ * With the largest period 255 wraps can be counted. The sample after that
+ * announces for itself and goes on: each reading is true, and the next
+ * announcement hands out every tick.
  */
 static void count_wraps(void)
 {
     const uint32_t load = TICKCLOCK_SYSTICK_MAX_LOAD;
     uint64_t now0 = 0;
     uint64_t now = 0;
-    int32_t number = TICKCLOCK_OK;
 
+    lost = 0;
     start(load);
     sleep(load / 2);
-    begun = dual();
+    timed_sample(&now0);
     const uint32_t dual0 = begun;
-    check(systick_clock_sample(&clock, &now0) == TICKCLOCK_OK);
-    for (int i = 0; i < 300 && number == TICKCLOCK_OK; i++) {
+    for (int i = 0; i < 300; i++) {
+        const uint64_t kept = clk.ticks_kept;
+
         sleep(load - cost);
-        number = systick_clock_sample(&clock, &now);
+        timed_sample(&now);
+        /* The one that announces comes later than it was timed. */
+        if (clk.ticks_kept == kept) {
+            compare((uint32_t)(now - now0), begun - dual0, true);
+        }
     }
-    check(number == TICKCLOCK_EAGAIN && clock.overflow_cyc == 255 * load);
+    check(clk.ticks_kept > 0);
     announce(0, now);
-    begun = dual();
-    check(systick_clock_sample(&clock, &now) == TICKCLOCK_OK);
+}
+
+/* A thread that runs on for more than 2^32 cycles is charged for all. */
+static void run_on(void)
+{
+    const uint32_t load = TICKCLOCK_SYSTICK_MAX_LOAD;
+    uint64_t now;
+
     lost = 0;
-    compare((uint32_t)(now - now0), begun - dual0, true);
+    threads[0] = (struct thread_usage){ true, 0, 1 };
+    start(load);
+    timed_switch(&threads[0]);
+    const uint32_t dual0 = begun;
+    for (int i = 0; i < 300; i++) {
+        sleep(load - cost);
+        timed_sample(&now);
+    }
+    timed_switch(NULL);
+    const uint64_t charged = systick_clock_usage(&threads[0]).total_cycles;
+
+    compare((uint32_t)charged, begun - dual0, true);
+    check(charged >> 32 == 1 && charged == systick_clock_total(&clk));
 }
 
 /* What the driver refuses besides. */
@@ -318,32 +310,32 @@ static void refuse(void)
     uint64_t now;
     struct thread_usage full = { true, UINT64_MAX, 1 };
 
-    check(systick_clock_start(&clock, SYSTICK, 1, TICK) == TICKCLOCK_EINVAL);
-    check(systick_clock_start(&clock, SYSTICK, TICKCLOCK_SYSTICK_MAX_LOAD + 1,
+    check(systick_clock_start(&clk, SYSTICK, 1, TICK) == TICKCLOCK_EINVAL);
+    check(systick_clock_start(&clk, SYSTICK, TICKCLOCK_SYSTICK_MAX_LOAD + 1,
                               TICK) == TICKCLOCK_EINVAL);
-    check(systick_clock_start(&clock, SYSTICK, 1000, 0) == TICKCLOCK_EINVAL);
+    check(systick_clock_start(&clk, SYSTICK, 1000, 0) == TICKCLOCK_EINVAL);
 
     start(100000);
-    check(systick_clock_switch(&clock, &full) == TICKCLOCK_OK);
+    check(systick_clock_switch(&clk, &full) == TICKCLOCK_OK);
     sleep(100);
-    check(systick_clock_switch(&clock, NULL) == TICKCLOCK_EOVERFLOW);
-    check(clock.running == &full && full.total_cycles == UINT64_MAX);
+    check(systick_clock_switch(&clk, NULL) == TICKCLOCK_EOVERFLOW);
+    check(clk.running == &full && full.total_cycles == UINT64_MAX);
 
     SYSTICK->LOAD = 200000;
     SYSTICK->VAL = 0;
     sleep(100);
-    check(systick_clock_sample(&clock, &now) == TICKCLOCK_EINVAL);
+    check(systick_clock_sample(&clk, &now) == TICKCLOCK_EINVAL);
 }
 
 static void bench(uint32_t load)
 {
-    checks = failed = 0;
     least = greatest = 0;
     measure(load);
     sample(load);
     switch_threads(load);
     if (load == TICKCLOCK_SYSTICK_MAX_LOAD) {
         count_wraps();
+        run_on();
         refuse();
     }
     add("cycles off: ");
@@ -351,18 +343,13 @@ static void bench(uint32_t load)
     add(" to ");
     add_number(greatest);
     add("; ");
-    add_number((int32_t)checks);
-    add(" checks, ");
-    add_number((int32_t)failed);
-    add(" failed");
-    end_line();
+    end_checks();
 }
 
 int main(void)
 {
     __asm__ volatile("cpsid i");
-    TIMER1_LOAD = UINT32_MAX;
-    TIMER1_CONTROL = TIMER_ENABLE | TIMER_32_BITS;
+    start_dual();
     FPGA_PRESCALE = 0;
     NVIC_ISER = DUAL_TIMER_IRQ;
 

@@ -1,7 +1,11 @@
-// Shows that the header compiles as C++. It is included twice, since its guard
-// must hold.
+// Shows that the headers compile as C++, beside <ctime> and its clock. They are
+// included twice, since their guards must hold.
+#include "systick_clock.h"
+#include "systick_clock.h"
 #include "tickclock.h"
 #include "tickclock.h"
+
+#include <ctime>
 
 // The pointers' types are written out, so that a changed prototype doesn't
 // compile. Between them they have every kind of argument and result.
@@ -27,6 +31,8 @@ uint32_t (*windows_of_idle)(void) = usage_new_idle_num_windows;
 int32_t (*add_in_place)(struct thread_usage *, uint32_t) = usage_accumulate;
 
 bool (*looked_at)(const struct thread_usage *) = usage_is_tracked;
+
+int32_t (*sampled)(struct systick_clock *, uint64_t *) = systick_clock_sample;
 
 }
 

@@ -9,40 +9,9 @@
 /* First, so that the header is shown to need no other before it. */
 #include "tickclock.h"
 
-#include <inttypes.h>
+#include "checks.h"
+
 #include <stddef.h>
-#include <stdio.h>
-
-static unsigned long checks;
-static unsigned long failed;
-
-static void check_field(const char *file, int line, const char *text,
-                        uint64_t expected, uint64_t got)
-{
-    checks++;
-    if (got != expected) {
-        failed++;
-        printf("%s:%d: %s: expected %" PRIu64 ", got %" PRIu64 "\n", file, line,
-               text, expected, got);
-    }
-}
-
-static void check_number(const char *file, int line, const char *text,
-                         int32_t expected, int32_t got)
-{
-    checks++;
-    if (got != expected) {
-        failed++;
-        printf("%s:%d: %s: expected %" PRId32 ", got %" PRId32 "\n", file, line,
-               text, expected, got);
-    }
-}
-
-/* Two forms, since the numbers have a sign and the fields need all 64 bits. */
-#define CHECK(expr, expected) \
-    check_field(__FILE__, __LINE__, #expr, (expected), (expr))
-#define CHECK_NUMBER(expr, expected) \
-    check_number(__FILE__, __LINE__, #expr, (expected), (expr))
 
 /*
  * One row for each case: the arguments in brackets, the number, then every
@@ -618,6 +587,5 @@ int main(void)
     usage_lent();
     usage_new_idle();
     usage_decides();
-    printf("c: %lu checks, %lu failed\n", checks, failed);
-    return failed > 0;
+    return report("the exported functions");
 }

@@ -1,3 +1,4 @@
+/* SPDX-License-Identifier: Apache-2.0 */
 /*
  * tickclock.h: the arithmetic of a tick clock over a timer that counts down,
  * and of a thread's usage record, for C firmware. Link with libtickclock.a,
@@ -57,6 +58,13 @@
 #ifdef __cplusplus
 extern "C" {
 #endif
+
+/*
+ * The version, a byte each for major, minor and patch: 1.0.0. A major one
+ * changes an answer or a record's layout, a minor one adds, and a patch does
+ * neither.
+ */
+#define TICKCLOCK_VERSION 0x010000
 
 /*
  * The numbers that the functions below answer. They are this library's own: a
@@ -341,6 +349,10 @@ uint32_t usage_accumulate_num_windows(uint32_t track_usage,
  * The same changes on a record that the caller keeps and lends for the call.
  * A pointer is to a record, not NULL, that nothing else uses during the call.
  * track_usage is a bool, and holds 0 or 1.
+ *
+ * None of them knows which thread runs, or since when. Of the running one,
+ * first add the cycles since its stamp, if it was tracked, and take a new stamp
+ * (firmware/example does).
  */
 struct thread_usage {
     bool track_usage;

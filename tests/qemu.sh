@@ -57,18 +57,19 @@ sh tools/firmware.sh > "$room/said" || { cat "$room/said"; exit 1; }
 
 # --- README's example, with the driver and newlib, linked without a warning ---
 if [ -e "$(arm-none-eabi-gcc -print-file-name=rdimon.specs)" ]; then
-    sh tools/readme.sh > "$room/readme.c"
+    sh tools/readme.sh '#include' > "$room/readme.c"
     echo 'void ticks_came(uint64_t ticks) { (void)ticks; }' >> "$room/readme.c"
     while read -r target float parts; do
+        linked=
         for part in $parts; do
             bad=0
             arm-none-eabi-gcc $strict -mthumb "-mcpu=$part" "-mfloat-abi=$float" -O2 --specs=rdimon.specs -Wl,--fatal-warnings \
                 -Iinclude -Ifirmware/example "$room/readme.c" firmware/example/systick_clock.c \
                 "target/firmware/$target/libtickclock.a" -o "$room/readme.elf" || bad=1
             count 1 "$bad"
-            [ "$bad" = 0 ] || echo "$target: README's example does not link for $part"
+            [ "$bad" != 0 ] || linked="$linked $part"
         done
-        echo "$target, README's example and newlib: tried to link for $parts"
+        echo "$target with README's example and newlib: linked without a warning for$linked"
     done <<END
 thumbv6m soft cortex-m0 cortex-m0plus cortex-m23
 thumbv7m soft cortex-m3

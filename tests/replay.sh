@@ -62,17 +62,6 @@ refusal() {
     held "$1" "$bad"
 }
 
-# ends NAME STATUS [ARGUMENT..]: tools/replay.sh ends with that status.
-ends() {
-    name=$1 want=$2
-    shift 2
-    status=0
-    sh tools/replay.sh "$@" 2> "$room/differ" || status=$?
-    bad=0
-    [ "$status" = "$want" ] || { echo "status $status, not $want" >> "$room/differ"; bad=1; }
-    held "$name" "$bad"
-}
-
 # zeros N: that many bytes 0.
 zeros() {
     dd if=/dev/zero bs="$1" count=1 2> "$room/dd"
@@ -89,8 +78,6 @@ numbered() {
 }
 
 # --- the printed case, whichever way it comes ---
-sh tools/trace.sh traces/printed.txt > "$room/trace"
-same 'printed.txt makes printed.trace' "$room/trace" "$printed"
 same 'the golden run is on printed.trace' crates/replay/stdin "$printed"
 run "$printed"
 lines 'the printed case by name' "$golden"
@@ -248,15 +235,28 @@ refusal 'replay_long with standard input closed' 'standard input: Bad file descr
 sh tools/run.sh replay_long < "$printed" 2> "$room/said" > /dev/full || true
 refusal 'replay_long to a full device' 'standard output: No space left on device'
 
-# --- what tools/replay.sh ends with, since the program can't choose its status ---
-ends 'status of the printed case' 0 "$printed" > "$room/out"
-same 'lines through tools/replay.sh' "$golden" "$room/out"
-ends 'status of the printed case by standard input' 0 < "$printed" > "$room/out"
-ends 'status of a refused trace' 0 "$room/trace" > "$room/out"
-ends 'status without a file' 1 "$missing" > "$room/out"
-ends 'status of a directory' 1 "$room" > "$room/out"
-ends 'status of two arguments' 1 "$printed" "$printed" > "$room/out"
-ends 'status of a full device' 1 "$printed" > /dev/full
+# --- the examples in traces/: beside each record stands the line that it prints ---
+for text in traces/*.txt; do
+    name=$(basename "$text" .txt)
+    sh tools/trace.sh "$text" > "$room/trace"
+    same "$name.txt makes $name.trace" "$room/trace" "traces/$name.trace"
+    run "traces/$name.trace"
+    sed -n 's/.*# \([0-9][0-9]* -*[0-9][0-9]* [0-9][0-9]* [0-9][0-9]*\)\( .*\)*$/\1/p; s/.*# \(end [0-9][0-9]* [0-9][0-9]*\)\( .*\)*$/\1/p' "$text" > "$room/told"
+    # Of a record that is repeated the last line alone is told.
+    bad=0
+    {
+        grep -Fvxf "$room/out" "$room/told" && bad=1
+        grep -Ev '^ *(#.*)?$' "$text" | wc -l > "$room/records"
+        [ "$(wc -l < "$room/told")" = "$(($(cat "$room/records") + 1))" ] || { echo "$text does not tell a line for each record and one for the end"; bad=1; }
+        [ "$(wc -l < "$room/out")" = "$(($(wc -c < "$room/trace") / 16 + 1))" ] || bad=1
+        cat "$room/said"
+        [ ! -s "$room/said" ] || bad=1
+    } > "$room/differ"
+    held "the lines of $name" "$bad"
+done
+bad=0
+grep -Fvxf README.md traces/printed.txt > "$room/differ" && bad=1
+held 'README shows printed.txt' "$bad"
 
 # --- tools/trace.sh ---
 cat > "$room/text" <<END
@@ -265,12 +265,16 @@ strat 0
 run 4294967296
 sample 1 2 3 4
 bytes 256
+repeat 2
+repeat 2 rum 1
 END
 cat > "$room/want" <<END
 $room/text:2: no record is called \`strat'
 $room/text:3: \`4294967296' is no number from 0 to 4294967295
 $room/text:4: \`sample' takes at most 3 numbers, and here are 4
 $room/text:5: \`256' is no number from 0 to 255
+$room/text:6: \`repeat' takes a number and a record
+$room/text:7: no record is called \`rum'
 END
 status=0
 sh tools/trace.sh "$room/text" > "$room/out" 2> "$room/said" || status=$?
@@ -278,8 +282,8 @@ bad=0
 diff "$room/want" "$room/said" > "$room/differ" || bad=1
 [ "$status" = 1 ] && [ ! -s "$room/out" ] || bad=1
 held 'lines that trace.sh refuses' "$bad"
-printf 'disable 15 1 256 4294967295 # all fields\r\n\nbytes 0 10 255' | sh tools/trace.sh | od -An -v -tu1 | tr -s ' \n' '  ' > "$room/out"
-echo ' 7 15 0 0 1 0 0 0 0 1 0 0 255 255 255 255 0 10 255 ' | tr -d '\n' > "$room/want"
+printf 'disable 15 1 256 4294967295 # all fields\r\n\nrepeat 2 bytes 0 10\nbytes 255' | sh tools/trace.sh | od -An -v -tu1 | tr -s ' \n' '  ' > "$room/out"
+echo ' 7 15 0 0 1 0 0 0 0 1 0 0 255 255 255 255 0 10 0 10 255 ' | tr -d '\n' > "$room/want"
 same 'every field of a record' "$room/want" "$room/out"
 
 echo "replay: $checks checks, $failed failed"

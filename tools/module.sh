@@ -1,7 +1,8 @@
 #!/bin/sh
-# module.sh MODULE COMMAND..: runs an rt command, and keeps in MODULE the last LLVM module that the compiler handed to its clang.
-# The kit compiles for x86-64 only. Its clang is stood in for by a script that keeps the module and then does as asked;
-# tools/firmware.sh and tools/native.sh compile what was kept for other machines.
+# module.sh FILE.bc COMMAND..: runs an rt command, and keeps the last LLVM module that the compiler handed to its clang to be
+# optimised (-O3), as FILE.bc, and what clang made of it, as FILE.o.
+# The kit compiles for x86-64 only. Its clang is stood in for by a script that does as asked and keeps both;
+# tools/firmware.sh and tools/native.sh compile the module for other machines, and tools/quick.sh links the object.
 set -eu
 here=$(cd "$(dirname "$0")" && pwd)
 module=$(cd "$(dirname "$1")" && pwd)/$(basename "$1")
@@ -17,7 +18,8 @@ chmod 755 "$room"
 mkdir -p "$room/on/$machine/toolchain/bin"
 cat > "$room/on/$machine/toolchain/bin/clang" <<END
 #!/bin/sh
-'$(command -v cp)' module.bc '$module' && exec '$tools/bin/clang' "\$@"
+'$tools/bin/clang' "\$@" || exit
+case " \$* " in *' -O3 '*) '$(command -v cp)' module.bc '$module' && '$(command -v cp)' module.o '${module%.bc}.o' ;; esac
 END
 chmod +x "$room/on/$machine/toolchain/bin/clang"
 for part in '' "/on/$machine" "/on/$machine/toolchain" "/on/$machine/toolchain/bin"; do
@@ -25,6 +27,6 @@ for part in '' "/on/$machine" "/on/$machine/toolchain" "/on/$machine/toolchain/b
         [ -e "$room$part/${entry##*/}" ] || ln -s "$entry" "$room$part/"
     done
 done
-rm -f "$module"
+rm -f "$module" "${module%.bc}.o"
 RATTLE_HOME=$room "$@" > "$room/said" 2>&1 || { cat "$room/said" >&2; exit 1; }
 [ -s "$module" ] || { echo "module.sh: the compiler handed no module to its clang" >&2; exit 1; }

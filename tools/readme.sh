@@ -1,4 +1,4 @@
 #!/bin/sh
-# readme.sh: prints README's example of a firmware that uses the driver, for tests to compile: its C text that begins with an #include.
+# readme.sh WORD: prints the C text of README whose first line has that word, for tests to hold to what stands.
 set -eu
-awk '/^```/ { on = 0 } on; /^```c$/ { getline; on = /^#include/; if (on) print }' "$(dirname "$0")/../README.md"
+word=$1 awk '/^```/ { on = 0 } on; /^```c$/ { getline; on = index($0, ENVIRON["word"]); if (on) print }' "$(dirname "$0")/../README.md"

@@ -5,6 +5,7 @@
 #   run P               switch THREAD P Q R     disable THREAD P Q R
 #   sample P Q R        stop P Q R              report THREAD
 #   announce            bytes B B ..            # a comment, to the end of its line
+#   repeat N RECORD     the record N times
 #
 # Fields left out at the end are 0. `bytes` puts any bytes, for records that are to be refused and for a short last one.
 # With no TEXT it reads standard input. Where a line can't be read it says so on standard error and writes no byte.
@@ -64,15 +65,28 @@ escapes=$(name=$name awk '
         return text
     }
 
+    function put(text, i) {
+        for (i = 0; i < times; i++) print text
+    }
+
     { sub(/\r$/, ""); sub(/#.*/, "") }
 
     NF == 0 { next }
+
+    { times = 1 }
+
+    $1 == "repeat" {
+        if (NF < 3) { wrong("`repeat\47 takes a number and a record"); next }
+        if (!good($2, 1000000)) next
+        times = $2
+        sub(/^[ \t]*repeat[ \t]+[^ \t]+/, "")
+    }
 
     $1 == "bytes" {
         if (NF == 1) wrong("`bytes\47 without a byte")
         text = ""
         for (i = 2; i <= NF; i++) if (good($i, 255)) text = text byte($i)
-        print text
+        put(text)
         next
     }
 
@@ -83,7 +97,7 @@ escapes=$(name=$name awk '
         if (NF > fields) { wrong("`" $1 "\47 takes at most " fields - 1 " numbers, and here are " NF - 1); next }
         split("", value)
         for (i = 2; i <= NF; i++) if (good($i, field[i] == "thread" ? 255 : 4294967295)) value[field[i]] = $i
-        print byte(field[1]) byte(value["thread"]) byte(0) byte(0) word32(value["p"]) word32(value["q"]) word32(value["r"])
+        put(byte(field[1]) byte(value["thread"]) byte(0) byte(0) word32(value["p"]) word32(value["q"]) word32(value["r"]))
     }
 
     END { close(tell); exit bad }

@@ -4,20 +4,20 @@
  * cycles of threads. An example of how firmware calls the library of
  * tickclock.h.
  *
- * A function answers TICKCLOCK_OK or the number of a refusal. Where it refuses,
- * nothing that it is lent changes but what a sample changes.
+ * A function answers TICKCLOCK_OK or the number of a refusal, which leaves
+ * thread records and totals as they were.
  *
  * Interrupts. A sample clears the timer's flag, so no two may overlap. Each
  * function masks interrupts for itself and puts the mask back as it was
  * (systick_port.h), so that a main loop and any handlers may call them; not an
- * NMI or a fault handler, which no mask keeps out. The longest is an
- * announcement, some 900 instructions on an M0.
+ * NMI or a fault handler, which no mask keeps out. They are masked for some
+ * 1500 instructions of an M0 at the most, four divisions among them.
  *
- * The flag is the clock's alone. Whatever else reads SysTick's CTRL clears it,
- * and so may a debugger that shows the register, by the way its probe reads:
- * then the wrap is lost where the values don't show it, and the clock is a
- * period short from there on. Keep SysTick out of a view that is refreshed
- * while the program runs.
+ * The flag, COUNTFLAG of SysTick's CTRL, is the clock's alone. Whatever else
+ * reads CTRL clears it. So may a debugger that shows the register; that depends
+ * on how its probe reads. The wrap is then lost, unless it falls amid a sample
+ * and shows in the values, and the clock is a period short from there on. Keep
+ * SysTick out of a view that is refreshed while the program runs.
  */
 #ifndef SYSTICK_CLOCK_H
 #define SYSTICK_CLOCK_H

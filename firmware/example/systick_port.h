@@ -28,7 +28,7 @@ static inline void systick_clock_restore(uint32_t was)
 
 #elif defined(__arm__) || defined(__ICCARM__) || defined(__CC_ARM)
 
-#error "how this compiler masks interrupts is not known here: define SYSTICK_CLOCK_PORT"
+#error "this compiler is not known here: define SYSTICK_CLOCK_PORT"
 
 #else
 

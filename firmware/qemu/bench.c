@@ -1,4 +1,4 @@
-/* bench.c: lines of text, numbers drawn from a seed, checks that are counted. */
+/* bench.c: lines of text, numbers drawn from a seed, checks and their count. */
 #include "bench.h"
 
 static char line[256];

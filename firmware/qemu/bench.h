@@ -1,6 +1,6 @@
 /*
  * bench.h: what the benches share: lines of text, numbers drawn from a seed,
- * checks that are counted.
+ * checks and their count.
  */
 #ifndef BENCH_H
 #define BENCH_H

@@ -25,7 +25,7 @@ static uint32_t slop;
 /* The latest reading that anybody was given, its low 32 bits. */
 static volatile uint32_t seen;
 
-/* ---- The handler, with counts of its own: it comes amid the main loop's ---- */
+/* ---- The handler, with counts of its own: it comes amid other counting ---- */
 
 static volatile bool calling;   /* the main loop is in a call of the driver */
 static volatile uint32_t taken; /* exceptions */

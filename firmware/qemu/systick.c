@@ -115,10 +115,10 @@ __attribute__((noinline)) static void timed_sample(uint64_t *now)
     check(systick_clock_sample(&clk, now) == TICKCLOCK_OK);
 }
 
-__attribute__((noinline)) static void timed_switch(struct thread_usage *next_one)
+__attribute__((noinline)) static void timed_switch(struct thread_usage *to)
 {
     begun = dual();
-    check(systick_clock_switch(&clk, next_one) == TICKCLOCK_OK);
+    check(systick_clock_switch(&clk, to) == TICKCLOCK_OK);
 }
 
 /* Answers the ticks, and checks them against the last reading. */

@@ -11,8 +11,10 @@ rt staticlib tickclock > "$room/said" 2>&1 || { cat "$room/said"; exit 1; }
 # the headers alone, as C99 and as C++; README's example; and the example driver, which a Cortex-M runs (tests/qemu.sh)
 printf '#include "tickclock.h"\n' > "$room/alone.c"
 printf '#include "systick_clock.h"\n' > "$room/driver.c"
-sh tools/readme.sh > "$room/readme.c"
-[ -s "$room/readme.c" ] || { echo "c: README has no example that begins with an #include"; exit 1; }
+sh tools/readme.sh '#include' > "$room/readme.c"
+sh tools/readme.sh raw1 > "$room/sample.c"
+[ -s "$room/readme.c" ] && [ -s "$room/sample.c" ] || { echo "c: README lacks its example or the driver's sample"; exit 1; }
+! grep -Fvxf firmware/example/systick_clock.c "$room/sample.c" || { echo "c: README's sample is not the driver's"; exit 1; }
 gcc -std=c99 $strict -Wshadow -Iinclude -Ifirmware/example -fsyntax-only \
     "$room/alone.c" "$room/driver.c" "$room/readme.c" firmware/example/systick_clock.c
 if command -v g++ > /dev/null; then

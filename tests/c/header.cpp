@@ -7,6 +7,10 @@
 
 #include <ctime>
 
+#if TICKCLOCK_VERSION < 0x010000
+#error "the version is no number that can be tested here"
+#endif
+
 // The pointers' types are written out, so that a changed prototype doesn't
 // compile. Between them they have every kind of argument and result.
 extern "C" {

@@ -19,10 +19,12 @@ cases: kit
 	sh tools/run.sh trace_cases < crates/trace_cases/stdin
 
 # Replays a trace; with no TRACE, 01's printed case. Only its lines go to standard output.
+# It goes by the environment, so that no shell takes a part of its name for a command.
 TRACE = traces/printed.trace
+export TRACE
 replay replay_long: kit
 	@sh tools/quick.sh $@
-	@./tickclock $@ "$(TRACE)"
+	@./tickclock $@ "$$TRACE"
 
 # The archive for Cortex-M: target/firmware/*/libtickclock.a, with the kit alone.
 firmware: kit

@@ -181,9 +181,10 @@ uint32_t systick_max_ticks_ticks(uint32_t cycles_per_tick);
  * A raw 0 is not refused, but may put the time a period ahead: read it as
  * load first, for val1 and val2 (counter_value, below).
  *
- * Where accepted, store new_overflow_cyc as overflow_cyc; on a wrap, then read
- * COUNTFLAG once more only to clear it, or the next sample may count the same
- * wrap again.
+ * On a wrap, read COUNTFLAG once more only to clear it, or the next sample may
+ * count the same wrap again. Ask for wrap_detected alone before that read, and
+ * for the rest after it, so that it comes soon after val2. Where accepted, store
+ * new_overflow_cyc as overflow_cyc.
  *
  * Refused, in this order:
  *   TICKCLOCK_EINVAL     val2 is above load

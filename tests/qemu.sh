@@ -192,7 +192,7 @@ run microbit "$room/cost.elf" $single -icount shift=0,sleep=off -d exec,nochain,
 count 1 "$bad"
 awk '
     function tell() {
-        if (name ~ /^systick_clock_/) print "a Cortex-M0: " n " instructions in " name (d ? ", " d " of them from C to D" : "")
+        if (name ~ /^(systick_clock|longest)_/) print "a Cortex-M0: " n " instructions in " name (d ? ", " d " of them from C to D" : "")
         n = d = reads = 0
         name = ""
     }

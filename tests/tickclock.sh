@@ -48,7 +48,8 @@ says() {
 closed_output() { ./tickclock replay "$printed" >&-; }
 closed_input() { ./tickclock replay <&-; }
 full_output() { ./tickclock replay "$printed" > /dev/full; }
-short_pipe() { ./tickclock replay "$printed" | true; }
+closed_help() { ./tickclock --help >&-; }
+full_help() { ./tickclock --help > /dev/full; }
 by_input() { ./tickclock "$@" < "$printed"; }
 by_pipe() { cat "$printed" | ./tickclock "$@"; }
 from() { (cd "$1" && shift && "$@"); }
@@ -62,7 +63,10 @@ lines 'standard input, by replay_long' by_pipe replay_long
 mkdir "$room/a b"
 cp "$printed" "$room/a b/-t"
 lines 'an odd name, from another folder' from "$room/a b" "$root/tickclock" replay ./-t
-lines 'a pipe that nobody reads' sh -c "./tickclock replay '$printed' | true; cat '$golden'"
+./tickclock replay "$printed" 2> "$room/said" | true
+: > "$room/want"
+status=0 wanted=0
+held 'a pipe that nobody reads says nothing'
 for word in --help -h help 'replay --help'; do
     status=0
     ./tickclock $word > "$room/out" 2> "$room/said" || status=$?
@@ -91,15 +95,23 @@ if command -v script > /dev/null; then
     echo "tickclock: no FILE, and standard input is a terminal; $use" > "$room/want"
     wanted=2
     held 'a terminal'
+else
+    echo 'tickclock: not tried with a terminal, since there is no script here'
 fi
 
 # --- what can't be read or written ---
-says 'no such file' 1 "tickclock: $room/missing: No such file or directory" ./tickclock replay "$room/missing"
-says 'a directory' 1 "tickclock: $room: Is a directory" ./tickclock replay "$room"
-says 'a directory, by replay_long' 1 "tickclock: $room: Is a directory" ./tickclock replay_long "$room"
+says 'no such file' 1 "tickclock: $room/missing: there is no such file, or no way to it" ./tickclock replay "$room/missing"
+says 'a name of two lines' 1 'tickclock: a?b: there is no such file, or no way to it' ./tickclock replay "$(printf 'a\nb')"
+says 'a directory' 1 "tickclock: $room: is a directory" ./tickclock replay "$room"
+says 'a directory, by replay_long' 1 "tickclock: $room: is a directory" ./tickclock replay_long "$room"
+if ! (: < /dev/tty) 2> /dev/null && [ -r /dev/tty ]; then
+    says 'what is there and opens not' 1 "tickclock: /dev/tty: can't be opened" by_input replay /dev/tty
+fi
 says 'standard input closed' 1 'tickclock: standard input is closed: name a FILE' closed_input
 says 'standard output closed' 1 'tickclock: standard output is closed: send the lines to a file or a pipe' closed_output
 says 'a full device' 1 'tickclock: standard output: No space left on device' full_output
+says 'help to a closed output' 1 'tickclock: standard output is closed: send the lines to a file or a pipe' closed_help
+says 'help to a full device' 1 "tickclock: standard output can't be written" full_help
 
 # --- not built, and built in seconds ---
 copy=$room/copy
@@ -108,8 +120,11 @@ cp -R Makefile README.md crates crates.txt tickclock tools traces "$copy/"
 not_built="is not built: \`make replay' builds it in seconds, \`make' with its proofs"
 says 'not built' 2 "tickclock: replay $not_built" "$copy/tickclock" replay "$printed"
 mkdir -p "$copy/target/bin"
-echo 'no program' > "$copy/target/bin/replay"
-says 'built for another machine' 2 "tickclock: $copy/target/bin/replay can't be run here: it is for Linux on x86-64 with glibc" "$copy/tickclock" replay "$printed"
+# An interpreter that is not there is what a loader that is not there looks like.
+echo '#!/nowhere/loader' > "$copy/target/bin/replay"
+chmod +x "$copy/target/bin/replay"
+says 'built for another machine' 2 "tickclock: $copy/target/bin/replay can't be run here: it is for Linux on x86-64 with glibc, in a folder from which programs may run" \
+    "$copy/tickclock" replay "$printed"
 rm -r "$copy/target"
 # With no kit: the usual folders alone, unless it is in one of them.
 if ! PATH=/usr/bin:/bin command -v rt > /dev/null; then
@@ -132,6 +147,8 @@ cat "$room/out" "$room/said" > "$room/both"
 mv "$room/both" "$room/said"
 held 'make replay in a fresh copy'
 lines 'make replay once more' make -C "$copy" --no-print-directory replay
+cp "$printed" "$copy/a \`b\` 'c'"
+lines 'make replay with an odd name' make -C "$copy" --no-print-directory replay "TRACE=a \`b\` 'c'"
 
 # --- make help tells of every target ---
 for target in $(sed -n 's/^\.PHONY: //p' Makefile); do

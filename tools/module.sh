@@ -11,6 +11,7 @@ tools=$(sh "$here/kit.sh")
 machine=$(uname -m)
 room=$(mktemp -d)
 trap 'rm -rf "$room"' EXIT
+trap 'exit 130' INT TERM HUP
 # Programs are run as nobody, who must reach their loader here.
 chmod 755 "$room"
 

@@ -10,9 +10,10 @@ done
 tools=$(sh tools/kit.sh)
 kit=${tools%/on/*}
 echo "quick: building $program without its proofs, in seconds; \`make' and \`make test' prove it" >&2
+mkdir -p target/quick 2> /dev/null && [ -w target/quick ] || { echo "quick: target/quick can't be written; build in a copy of this folder that is yours" >&2; exit 1; }
 room=$(mktemp -d)
 trap 'rm -rf "$room"' EXIT
+trap 'exit 130' INT TERM HUP
 sh tools/module.sh "$room/module.bc" rt try "$program"
-mkdir -p target/quick
 "${tools%/toolchain}/bin/rattle-link" --target x86_64-unknown-linux-gnu --toolchain "$tools" \
     -o "target/quick/$program" "$room/module.o" "$kit/lib/libos_c.a" > "$room/said" 2>&1 || { cat "$room/said" >&2; exit 1; }

@@ -8,17 +8,28 @@
 #   repeat N RECORD     the record N times
 #
 # Fields left out at the end are 0. `bytes` puts any bytes, for records that are to be refused and for a short last one.
-# With no TEXT it reads standard input. Where a line can't be read it says so on standard error and writes no byte.
+# With no TEXT, or with -, it reads standard input. Where a line can't be read it says so on standard error and writes no byte.
 set -eu
-case $# in
-    0) name='standard input' ;;
-    1)
-        name=$1
-        # A directory can be opened, and some awks read it as an empty text.
-        if [ -d "$name" ]; then echo "$name: is a directory" >&2; exit 1; fi
-        exec < "$name"
+
+# fail STATUS TEXT
+fail() {
+    printf '%s\n' "$2" >&2
+    exit "$1"
+}
+
+name=${1--}
+[ $# -le 1 ] || fail 2 'usage: trace.sh [TEXT]'
+case $name in
+    --help | -h) sed -n '2,/^set/{/^#/s/^# *//p;}' "$0"; exit ;;
+    -)
+        name='standard input'
+        (true 3<&0) 2> /dev/null || fail 1 'standard input is closed: name a TEXT'
         ;;
-    *) echo 'usage: trace.sh [TEXT]' >&2; exit 2 ;;
+    *)
+        # A directory can be opened, and some awks read it as an empty text.
+        [ ! -d "$name" ] || fail 1 "$name: is a directory"
+        { command exec < "$name"; } 2> /dev/null || fail 1 "$name: can't be opened"
+        ;;
 esac
 
 # A shell variable can't hold the byte 0, so awk writes the bytes as printf's escapes, a line of them for each record.
@@ -102,4 +113,4 @@ escapes=$(name=$name awk '
 
     END { close(tell); exit bad }
 ')
-printf '%s\n' "$escapes" | while IFS= read -r line; do printf "$line" || exit 1; done
+printf '%s\n' "$escapes" | while IFS= read -r line; do printf "$line" || exit 1; done 2> /dev/null || fail 1 "standard output can't be written"

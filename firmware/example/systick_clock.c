@@ -11,10 +11,10 @@
 #endif
 
 /* Of CTRL. Reading it clears COUNTFLAG, which a wrap sets. */
-#define ENABLE (1u << 0)
-#define TICKINT (1u << 1)
-#define CLKSOURCE (1u << 2)
-#define COUNTFLAG (1u << 16)
+#define CTRL_ENABLE (1u << 0)
+#define CTRL_TICKINT (1u << 1)
+#define CTRL_CLKSOURCE (1u << 2)
+#define CTRL_COUNTFLAG (1u << 16)
 
 /*
  * A stretch is closed from half of what its stamps can tell up to three
@@ -42,10 +42,10 @@ static int32_t read_timer(struct systick_clock *clk, uint64_t *now)
     const uint32_t load = clk->load;
     const uint32_t overflow = clk->overflow_cyc;
 
-    const uint32_t raw1 = timer->VAL;              /* A */
-    const uint32_t flag = timer->CTRL & COUNTFLAG; /* B: reading clears it */
-    const uint32_t raw2 = timer->VAL;              /* C */
-    const uint32_t val2 = value_of(raw2, load);    /* a raw 0 is load */
+    const uint32_t raw1 = timer->VAL;                   /* A */
+    const uint32_t flag = timer->CTRL & CTRL_COUNTFLAG; /* B clears it */
+    const uint32_t raw2 = timer->VAL;                   /* C */
+    const uint32_t val2 = value_of(raw2, load); /* a raw 0 is load */
     const uint32_t val1 = value_of(raw1, load);
 
     if (systick_elapsed_decide_wrap_detected(val1, val2, flag, load,
@@ -128,7 +128,7 @@ static int32_t sample(struct systick_clock *clk, uint64_t *now)
 {
     int32_t number = TICKCLOCK_OK;
 
-    /* Tested before COUNTFLAG is read, since a refusal would lose it. */
+    /* Tested before the flag is read, since a refusal would lose it. */
     if ((uint64_t)clk->overflow_cyc + 2 * clk->load - 1 > UINT32_MAX) {
         number = announce(clk);
     }
@@ -139,7 +139,7 @@ static int32_t sample(struct systick_clock *clk, uint64_t *now)
         const uint32_t cycles = stretch(clk, *now);
 
         if (LONG_STRETCH <= cycles && cycles < FALLEN) {
-            /* That a total is full is for the next switch to tell. */
+            /* Where a total is full the stretch stays open, for a switch. */
             (void)charge(clk, *now);
         }
     }
@@ -203,7 +203,7 @@ int32_t systick_clock_start(struct systick_clock *clk,
     timer->CTRL = 0;
     timer->LOAD = load - 1; /* as the value 0 lasts a cycle too */
     timer->VAL = 0;         /* a write clears the value and COUNTFLAG */
-    timer->CTRL = ENABLE | TICKINT | CLKSOURCE;
+    timer->CTRL = CTRL_ENABLE | CTRL_TICKINT | CTRL_CLKSOURCE;
     systick_clock_restore(was);
     return TICKCLOCK_OK;
 }

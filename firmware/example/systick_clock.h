@@ -4,20 +4,28 @@
  * cycles of threads. An example of how firmware calls the library of
  * tickclock.h.
  *
- * A function answers TICKCLOCK_OK or the number of a refusal, which leaves
- * thread records and totals as they were.
+ * A function answers TICKCLOCK_OK or the number of a refusal. A refusal writes
+ * nothing through now or ticks, and leaves thread records and totals as its
+ * sample left them.
  *
  * Interrupts. A sample clears the timer's flag, so no two may overlap. Each
  * function masks interrupts for itself and puts the mask back as it was
- * (systick_port.h), so that a main loop and any handlers may call them; not an
- * NMI or a fault handler, which no mask keeps out. They are masked for some
- * 1500 instructions of an M0 at the most, four divisions among them.
+ * (systick_port.h), so that a main loop and any handlers may call them, on one
+ * processor and in privileged mode; not an NMI or a fault handler, which no
+ * mask keeps out. An announcement divides four times, so a call may mask them
+ * for some 4000 instructions of an M0, though 1000 is usual.
+ *
+ * What a lost wrap costs. After each wrap a sample has to begin and end before
+ * the next one: the handler's latency and a sample together stay below the
+ * period. Otherwise a wrap may be lost, and the clock is a period short from
+ * there on. The next reading may be below the last one, by less than a period;
+ * a switch before the clock has caught up then takes the fall for nearly 2^32
+ * cycles, and charges them.
  *
  * The flag, COUNTFLAG of SysTick's CTRL, is the clock's alone. Whatever else
- * reads CTRL clears it. So may a debugger that shows the register; that depends
- * on how its probe reads. The wrap is then lost, unless it falls amid a sample
- * and shows in the values, and the clock is a period short from there on. Keep
- * SysTick out of a view that is refreshed while the program runs.
+ * reads CTRL clears it, and the wrap may be lost as above. So may a debugger
+ * that shows the register; that depends on how its probe reads. Keep SysTick
+ * out of its register view while the clock runs.
  */
 #ifndef SYSTICK_CLOCK_H
 #define SYSTICK_CLOCK_H
@@ -53,10 +61,13 @@ struct systick_clock {
  * Starts the timer, and the clock at 0. SysTick's exception then comes at each
  * wrap: sample and announce there.
  *
+ * Choose a period well above the time for which interrupts are ever masked, by
+ * this driver (above) or by others: no sample is taken meanwhile.
+ *
  * Started again, the clock is at 0 again: no thread runs, the total is 0, and
  * ticks that were not handed out and cycles since the last switch are gone.
- * Thread records stay as they are. To keep what is open, announce and switch to
- * NULL first.
+ * Thread records stay as they are. To keep what is open, switch to NULL and
+ * then announce; cycles since the last wrap are gone all the same.
  *   TICKCLOCK_EINVAL  load is below 2 or above TICKCLOCK_SYSTICK_MAX_LOAD, or
  *                     cycles_per_tick is 0
  */
@@ -65,7 +76,7 @@ int32_t systick_clock_start(struct systick_clock *clk,
                             uint32_t cycles_per_tick);
 
 /*
- * The cycles since the start. Sample at least once a period.
+ * The cycles since the start. Sample often enough that no wrap is lost (above).
  *
  * After too many wraps without an announcement there is no room for another
  * (01's -11). The sample then announces for itself and goes on, and the next
@@ -88,13 +99,18 @@ int32_t systick_clock_announce(struct systick_clock *clk, uint64_t *ticks);
  * run on for longer: where a stretch has come to 2^31 cycles, the next sample,
  * whoever takes it, charges them and takes a new stamp. So a turn above that
  * bound counts as several stretches; it is one turn all the same, and neither
- * the flag nor the windows of its record change.
+ * the flag nor the windows of its record change. Where a total is too full for
+ * that, the stretch stays open, and is short by 2^32 once it has run on so far.
+ *
+ * As the stamp 0 means stopped, a time whose low 32 bits are 0 has the stamp 1:
+ * a stretch that begins or ends there is charged one cycle less or more.
  *
  * A record stays lent while its thread runs, and any sample may change it.
  * Don't call usage_enable, usage_disable or usage_accumulate on it then: they
  * know nothing of the open stretch.
  *
- * Each function below samples first, and refuses as a sample does.
+ * The next three sample first, and refuse as a sample does. A thread is a
+ * record, and NULL for a switch alone.
  */
 
 /*

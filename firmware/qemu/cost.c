@@ -8,8 +8,19 @@
 
 #define PERIOD 1000
 
+void longest_switch(void);
+
 static struct systick_clock clk;
 static struct thread_usage threads[2];
+
+/*
+ * A switch after many wraps without an announcement, as the sample finds them,
+ * to be divided by a tick of 1; it closes a long stretch too.
+ */
+__attribute__((noinline)) void longest_switch(void)
+{
+    (void)systick_clock_switch(&clk, &threads[0]);
+}
 
 int main(void)
 {
@@ -30,5 +41,10 @@ int main(void)
         systick_clock_switch(&clk, &threads[1]) != TICKCLOCK_OK) {
         return 1;
     }
+    clk.overflow_cyc = UINT32_MAX - 2 * PERIOD + 2;
+    clk.cycles_per_tick = 1;
+    clk.usage0 -= 1u << 31;
+    threads[1].track_usage = true;
+    longest_switch();
     return 0;
 }

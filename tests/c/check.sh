@@ -59,6 +59,8 @@ charges-all-at-enable s/thread == clk->running/thread == NULL/
 counts-no-total s/clk->total_cycles += cycles;//
 lets-the-total-wrap s/usage_accumulate_number(false, clk->total_cycles/usage_accumulate_number(false, 0/
 closes-where-windows-are-full s/if (track) {/if (track \&\& thread != clk->running) {/
+stamps-a-zero s/(uint32_t)now : 1/(uint32_t)now : 0/
+masks-nothing s/systick_clock_mask()/masked/
 unmasks-what-was-masked s/systick_clock_restore(was)/systick_clock_restore(0 * was)/
 END
 echo "c: $wrong wrong drivers caught"

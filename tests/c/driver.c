@@ -20,16 +20,9 @@ static struct systick_registers timer;
 static uint64_t ran; /* the cycles since the start, 01's T */
 static struct systick_clock clk;
 uint32_t masked;
+uint32_t masks;
 
 /* ---- The timer ---- */
-
-static void start(uint32_t load, uint32_t tick)
-{
-    ran = 0;
-    CHECK_NUMBER(systick_clock_start(&clk, &timer, load, tick), TICKCLOCK_OK);
-    CHECK(timer.LOAD, load - 1);
-    timer.CTRL &= ~COUNTFLAG;
-}
 
 /* So many cycles pass. */
 static void run(uint64_t cycles)
@@ -45,15 +38,29 @@ static void run(uint64_t cycles)
     ran += cycles;
 }
 
-/* Memory keeps what was read, so after a call the flag is cleared here. */
-static int32_t called(int32_t number)
+/*
+ * Memory keeps what was read, so after a call the flag is cleared here. A call
+ * masks once, and unmasks; one that is refused before has no need to.
+ */
+static int32_t called(int32_t number, uint32_t expected_masks)
 {
     timer.CTRL &= ~COUNTFLAG;
     CHECK(masked, 0);
+    CHECK(masks, expected_masks);
+    masks = 0;
     return number;
 }
 
-#define CALL(expr, expected) CHECK_NUMBER(called(expr), expected)
+#define CALL(expr, expected) CHECK_NUMBER(called(expr, 1), expected)
+#define REFUSED_AT_ONCE(expr) \
+    CHECK_NUMBER(called(expr, 0), TICKCLOCK_EINVAL)
+
+static void start(uint32_t load, uint32_t tick)
+{
+    ran = 0;
+    CALL(systick_clock_start(&clk, &timer, load, tick), TICKCLOCK_OK);
+    CHECK(timer.LOAD, load - 1);
+}
 
 /* A sample that reads the cycles run. */
 static void sample(void)
@@ -124,9 +131,9 @@ static void refuses_timers(void)
 {
     uint64_t now = 42;
 
-    CALL(systick_clock_start(&clk, &timer, 1, 1), TICKCLOCK_EINVAL);
-    CALL(systick_clock_start(&clk, &timer, LARGEST + 1, 1), TICKCLOCK_EINVAL);
-    CALL(systick_clock_start(&clk, &timer, 1000, 0), TICKCLOCK_EINVAL);
+    REFUSED_AT_ONCE(systick_clock_start(&clk, &timer, 1, 1));
+    REFUSED_AT_ONCE(systick_clock_start(&clk, &timer, LARGEST + 1, 1));
+    REFUSED_AT_ONCE(systick_clock_start(&clk, &timer, 1000, 0));
     start(1000, 1);
     timer.VAL = 1000;
     CALL(systick_clock_sample(&clk, &now), TICKCLOCK_EINVAL);
@@ -145,12 +152,14 @@ static void fresh(uint32_t load)
     run(5);
 }
 
-/* The records and the total are these. */
+/* The records and the total are these. Each of the three reads masks once. */
 #define USED(one_cycles, two_cycles, all_cycles) \
     do { \
         CHECK(systick_clock_usage(&one).total_cycles, one_cycles); \
         CHECK(systick_clock_usage(&two).total_cycles, two_cycles); \
+        CHECK(masks, 2); \
         CHECK(systick_clock_total(&clk), all_cycles); \
+        CHECK_NUMBER(called(TICKCLOCK_OK, 3), TICKCLOCK_OK); \
     } while (0)
 
 static void takes_turns(void)
@@ -196,6 +205,23 @@ static void tracks_what_runs(void)
     CHECK(two.num_windows, 1);
     CHECK(one.track_usage, false);
     CHECK(two.track_usage, true);
+}
+
+/* A time whose low 32 bits are 0 has the stamp 1, since 0 means stopped. */
+static void stamps_no_zero(void)
+{
+    one = two = (struct thread_usage){ true, 0, 1 };
+    start(LARGEST, 1);
+    CALL(systick_clock_switch(&clk, &one), TICKCLOCK_OK);
+    run(300);
+    CALL(systick_clock_switch(&clk, &two), TICKCLOCK_OK);
+    USED(299, 0, 299);
+    run_sampled(((uint64_t)1 << 32) - 300);
+    CALL(systick_clock_switch(&clk, &one), TICKCLOCK_OK);
+    USED(299, ((uint64_t)1 << 32) - 299, (uint64_t)1 << 32);
+    run(300);
+    CALL(systick_clock_switch(&clk, NULL), TICKCLOCK_OK);
+    USED(598, ((uint64_t)1 << 32) - 299, ((uint64_t)1 << 32) + 299);
 }
 
 /* A thread runs on for three times what a stamp can tell. */
@@ -317,7 +343,8 @@ static void leaves_masked(void)
     CHECK(masked, 1);
     (void)systick_clock_usage(&one);
     CHECK(masked, 1);
-    masked = 0;
+    CHECK(masks, 8);
+    masked = masks = 0;
 }
 
 int main(void)
@@ -327,6 +354,7 @@ int main(void)
     refuses_timers();
     takes_turns();
     tracks_what_runs();
+    stamps_no_zero();
     runs_on();
     falls_back();
     refuses_full_totals();

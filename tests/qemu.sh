@@ -127,8 +127,8 @@ shifts() {
     [ "$odd" = 0 ] && [ "$(wc -l < "$room/$1")" = $((6 * $3)) ] || { cat "$room/$1"; count 1 1; }
 }
 
-# right NAME: shows its lines, and adds up what they count.
-right() {
+# holds NAME: shows the lines of a driver that is right, and adds up what they count.
+holds() {
     cat "$room/$1"
     awk -v tally="$room/tally" '{ checks += $(NF - 3); failed += $(NF - 1) } END { print checks, failed > tally }' "$room/$1"
     read -r held bad < "$room/tally"
@@ -154,7 +154,7 @@ caught() {
 
 driver right
 shifts right systick 3
-right right
+holds right
 # The flag is not cleared after a wrap.
 driver no_D '/D, or the next sample/d'
 # A wrap is told by the flag and not by the values too.
@@ -177,7 +177,7 @@ done
 # --- the same with SysTick's exception taken: the handler samples and announces amid the main loop's samples and switches ---
 driver interrupted
 shifts interrupted interrupt 2
-right interrupted
+holds interrupted
 # Interrupts are not masked.
 driver unmasked 's/systick_clock_mask()/0/'
 shifts unmasked interrupt 2

@@ -4,9 +4,9 @@
  * cycles of threads. An example of how firmware calls the library of
  * tickclock.h.
  *
- * A function answers TICKCLOCK_OK or the number of a refusal. A refusal writes
- * nothing through now or ticks, and leaves thread records and totals as its
- * sample left them.
+ * Those that answer an int32_t answer TICKCLOCK_OK or the number of a refusal.
+ * A refusal writes nothing through now or ticks, and leaves thread records and
+ * totals as its sample left them.
  *
  * Interrupts. A sample clears the timer's flag, so no two may overlap. Each
  * function masks interrupts for itself and puts the mask back as it was
@@ -87,20 +87,22 @@ int32_t systick_clock_sample(struct systick_clock *clk, uint64_t *now);
 
 /*
  * The ticks that have come since they were last handed out, by the last sample.
- * 64 bits, since those that a sample announced for itself are among them.
+ * 64 bits, since those that a sample announced for itself are among them. Never
+ * refused, where nobody else has changed the clock.
  */
 int32_t systick_clock_announce(struct systick_clock *clk, uint64_t *ticks);
 
 /*
  * ---- Threads ----
  *
- * A stretch is the time from one switch to the next. Stamps have 32 bits, so
- * only up to 2^32 - 2 cycles can be told of one (9 s at 480 MHz). A thread may
- * run on for longer: where a stretch has come to 2^31 cycles, the next sample,
- * whoever takes it, charges them and takes a new stamp. So a turn above that
- * bound counts as several stretches; it is one turn all the same, and neither
- * the flag nor the windows of its record change. Where a total is too full for
- * that, the stretch stays open, and is short by 2^32 once it has run on so far.
+ * A stretch is the time for which a thread runs on, from one stamp to the next.
+ * Stamps have 32 bits, so only up to 2^32 - 2 cycles can be told of one (9 s at
+ * 480 MHz). A thread may run for longer: where a stretch has come to 2^31
+ * cycles, the next sample, whoever takes it, charges them and takes a new
+ * stamp. So a turn above that bound counts as several stretches; it is one turn
+ * all the same, and neither the flag nor the windows of its record change.
+ * Where a total is too full for that, the stretch stays open, and is short by
+ * 2^32 once it has run on so far.
  *
  * As the stamp 0 means stopped, a time whose low 32 bits are 0 has the stamp 1:
  * a stretch that begins or ends there is charged one cycle less or more.

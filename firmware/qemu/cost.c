@@ -1,7 +1,7 @@
 /*
- * cost.c: one call of each of the example driver's functions. tests/qemu.sh
- * counts their instructions, by a log in which the emulator has a line for
- * each, and goes by this file's main to tell where a call ends.
+ * cost.c: calls of the example driver, the usual ones and the longest.
+ * tests/qemu.sh counts their instructions, by a log in which the emulator has a
+ * line for each, and goes by this file's main to tell where a call ends.
  */
 #include "bench.h"
 #include "timers.h"
@@ -41,6 +41,7 @@ int main(void)
         systick_clock_switch(&clk, &threads[1]) != TICKCLOCK_OK) {
         return 1;
     }
+    /* one more than leaves room for a sample */
     clk.overflow_cyc = UINT32_MAX - 2 * PERIOD + 2;
     clk.cycles_per_tick = 1;
     clk.usage0 -= 1u << 31;

@@ -108,7 +108,7 @@ static void start(uint32_t load)
     begun = dual();
 }
 
-/* Timed so that the dual timer is always read as long before. */
+/* Never inlined, so that the dual timer is always read as long before. */
 __attribute__((noinline)) static void timed_sample(uint64_t *now)
 {
     begun = dual();
@@ -232,11 +232,9 @@ static void switch_threads(uint32_t load)
 
         wait();
         const uint32_t before = begun;
-        begun = dual();
-        const int32_t number = systick_clock_switch(&clk, next_one);
+        timed_switch(next_one);
         const bool fair = in_time(before);
 
-        check(number == TICKCLOCK_OK);
         if (running == &threads[0]) {
             lost = 0;
             compare((uint32_t)(running->total_cycles - was), begun - before,

@@ -15,14 +15,14 @@ use Rattle.usage.specs.declared.ThreadUsage.{ThreadUsage}
 use Rattle.usage.specs.declared.Changed.{Changed}
 use Rattle.usage.specs.declared.Changed.the-variants as C
 use Rattle.usage.specs.Record.{withFlag, withTotal}
-use Rattle.usage.specs.Leaves.{enabled, enabledRecord, enableTests, accumulated, sumTests, elapsedCycles}
+use Rattle.usage.specs.Leaves.{enabled, enabledRecord, enableTests, accumulated, sumTests}
 use Rattle.books.specs.declared.Books.{Books}
 use Rattle.books.specs.declared.Entry.{Entry}
 use Rattle.books.specs.declared.Entered.{Entered}
 use Rattle.books.specs.declared.Entered.the-variants as E
 use Rattle.books.specs.declared.Operation.{Operation}
 use Rattle.books.specs.declared.Operation.the-variants as O
-use Rattle.books.specs.Entries.{stopped, runs, openOf, shutOf, entered, charged, withChange, onward, closeOf, stopOf, switchOf, altered, reopenOf, alterOf, enterOf}
+use Rattle.books.specs.Entries.{stopped, runs, openCycles, openOf, shutOf, entered, charged, withChange, onward, closeOf, stopOf, switchOf, altered, reopenOf, alterOf, enterOf}
 use Rattle.books.specs.Laws.{closes, flagAfter, rises, stampAfter, runningAfter, EntryIs}
 
 -- what holds of each accepted case, with how it came about, holds of the outcome
@@ -77,7 +77,7 @@ alter-is u false v e = let is : withFlag false u ≡ v = cc in rw (← is) (reco
 
 -- a close: the stamps' difference, once to the machine and, if tracked, once to the thread
 pub record CloseIs (b : Books) (u : ThreadUsage) (now : ℕ) (e : Entry) : Type 0 where
-  pub cycles : e .cycles ≡ elapsedCycles now (b .stamp)
+  pub cycles : e .cycles ≡ openCycles b now
   pub books : e .books ≡ shutOf b (e .cycles)
   pub charge : ChargeIs u (e .cycles) (e .usage)
 
@@ -85,12 +85,12 @@ pub close-is : (b : Books) (u : ThreadUsage) (now : ℕ) (e : Entry) → closeOf
 unfolding closeOf
 close-is b u now e =
     by-outcome E.Refused _ (λ (o : Entered). o ≡ E.Accepted e → CloseIs b u now e)
-    ((ltb max64 (b .total .0 + elapsedCycles now (b .stamp)), Overflow) ∷ [])
+    ((ltb max64 (b .total .0 + openCycles b now), Overflow) ∷ [])
     (λ why q. clash (cc))
-    (λ none. change-by (λ (o : Entered). o ≡ E.Accepted e → CloseIs b u now e) (charged u (elapsedCycles now (b .stamp))) _
+    (λ none. change-by (λ (o : Entered). o ≡ E.Accepted e → CloseIs b u now e) (charged u (openCycles b now)) _
     (λ why q. clash (cc))
     (λ v c q.
-    let is : record { cycles = elapsedCycles now (b .stamp); books = shutOf b (elapsedCycles now (b .stamp)); usage = v } ≡ e = cc in
+    let is : record { cycles = openCycles b now; books = shutOf b (openCycles b now); usage = v } ≡ e = cc in
     rw (← is) (record { cycles = refl; books = refl; charge = charge-is u _ v c })))
 
 idle-is : (b : Books) (u : ThreadUsage) (now : ℕ) (op : Operation) → closes b u op ≡ false → flagAfter op (u .«track_usage») ≡ u .«track_usage» → rises op (u .«track_usage») ≡ false → stampAfter b u now op ≡ b .stamp → runningAfter b op ≡ b .running → EntryIs b u now op (record { cycles = 0; books = b; usage = u })

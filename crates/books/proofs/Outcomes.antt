@@ -10,7 +10,6 @@ use Rattle.units.specs.declared.Cycles.{Cycles}
 use Rattle.usage.specs.declared.ThreadUsage.{ThreadUsage}
 use Rattle.usage.specs.declared.Changed.{Changed}
 use Rattle.usage.specs.declared.Changed.the-variants as C
-use Rattle.usage.specs.Leaves.{elapsedCycles}
 use Rattle.usage.specs.Says.{changedWhy}
 use Rattle.books.specs.declared.Books.{Books}
 use Rattle.books.specs.declared.Entry.{Entry}
@@ -18,7 +17,7 @@ use Rattle.books.specs.declared.Entered.{Entered}
 use Rattle.books.specs.declared.Entered.the-variants as E
 use Rattle.books.specs.declared.Operation.{Operation}
 use Rattle.books.specs.Stamp.{stampOf}
-use Rattle.books.specs.Entries.{shutOf, entered, charged, withChange, onward, closeOf, altered, reopenOf, runs, alterOf, enterOf}
+use Rattle.books.specs.Entries.{openCycles, shutOf, entered, charged, withChange, onward, closeOf, altered, reopenOf, runs, alterOf, enterOf}
 use Rattle.books.specs.Enter.{busy, entryOf}
 
 pub low-zero : (reading : ℕ) → reading % 2 ^ 32 ≡ 0 → stampOf reading ≡ 1
@@ -50,7 +49,7 @@ module _ {x : Entered} (go-on : Entry → Entered) where
   entry-accepted q = sym (ap (λ y. onward y go-on) q)
 
 -- closing, with the cycles d that the leaf gave
-module _ (b : Books) (u : ThreadUsage) (now : ℕ) {d : ℕ} (e : d ≡ elapsedCycles now (b .stamp)) where
+module _ (b : Books) (u : ThreadUsage) (now : ℕ) {d : ℕ} (e : d ≡ openCycles b now) where
   pub total-above : max64 < b .total .0 + d → E.Refused Overflow ≡ closeOf b u now
   unfolding closeOf
   total-above h = let above = rw e at h in simp (lt-ltb _ _ above)

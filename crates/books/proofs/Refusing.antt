@@ -1,18 +1,18 @@
 -- Each refusal of an entry, exactly.
 use Prim.Native.Nat.{ℕ, _+_}
-use mathlib.Core.Path.{_≡_, refl, subst}
+use mathlib.Core.Path.{_≡_, refl, ap, _∙_, subst}
 use mathlib.Core.Bool.{Bool, true, false, cond, not, _&&_, _||_, Bool·beq}
 use mathlib.Core.List.{[], _∷_}
-use lib.IntN.{ℤ}
 use lib.Dec.{ltb, eqb}
 use Rattle.error.proofs.Tests.{or-none}
-use Rattle.error.specs.declared.Refusal.the-variants.{Already, Overflow}
+use Rattle.error.proofs.Ordered.{carried}
+use Rattle.error.specs.declared.Refusal.the-variants.{Overflow}
 use Rattle.error.specs.Numbers.{ok, max32, max64, numberOf}
 use Rattle.error.specs.InOrder.{inOrder}
 use Rattle.usage.specs.declared.ThreadUsage.{ThreadUsage}
 use Rattle.usage.specs.declared.Changed.{Changed}
 use Rattle.usage.specs.declared.Changed.the-variants as C
-use Rattle.usage.specs.Leaves.{enabled, accumulated, elapsedCycles}
+use Rattle.usage.specs.Leaves.{enabled, accumulated}
 use Rattle.books.specs.declared.Books.{Books}
 use Rattle.books.specs.declared.Entry.{Entry}
 use Rattle.books.specs.declared.Entered.{Entered}
@@ -20,8 +20,8 @@ use Rattle.books.specs.declared.Entered.the-variants as E
 use Rattle.books.specs.declared.Operation.{Operation}
 use Rattle.books.specs.declared.Operation.the-variants as O
 use Rattle.books.specs.Stamp.{stampOf}
-use Rattle.books.specs.Entries.{stopped, runs, charged, withChange, onward, closeOf, stopOf, switchOf, altered, reopenOf, alterOf, enterOf}
-use Rattle.books.specs.Enter.{busy, entryOf}
+use Rattle.books.specs.Entries.{stopped, runs, openCycles, charged, withChange, onward, closeOf, stopOf, switchOf, altered, reopenOf, alterOf, enterOf}
+use Rattle.books.specs.Enter.{entryTests, entryOf}
 use Rattle.books.specs.Laws.{entryNumber, EveryEntry, closes, rises, tooMany, full}
 use Rattle.books.proofs.Entering.{close-is}
 
@@ -78,7 +78,7 @@ flag-by u false = changed-by false _
 
 module _ (b : Books) (u : ThreadUsage) (now : ℕ) where
   abbrev over : Bool
-  over = tooMany b u (elapsedCycles now (b .stamp))
+  over = tooMany b u (openCycles b now)
 
   abbrev window : Bool
   window = not (u .«track_usage») && eqb (u .«num_windows») max32
@@ -86,9 +86,9 @@ module _ (b : Books) (u : ThreadUsage) (now : ℕ) where
   close-by : EntryBy over (closeOf b u now)
   unfolding closeOf tooMany
   close-by =
-      subst (λ (t : Bool). EntryBy t (closeOf b u now)) (as-one (ltb max64 (b .total .0 + elapsedCycles now (b .stamp))) _)
-      (either (ltb max64 (b .total .0 + elapsedCycles now (b .stamp))) true _ (E.Refused Overflow) _ refused
-      (change-then _ false _ _ (charge-by u (elapsedCycles now (b .stamp))) (λ v. kept _)))
+      subst (λ (t : Bool). EntryBy t (closeOf b u now)) (as-one (ltb max64 (b .total .0 + openCycles b now)) _)
+      (either (ltb max64 (b .total .0 + openCycles b now)) true _ (E.Refused Overflow) _ refused
+      (change-then _ false _ _ (charge-by u (openCycles b now)) (λ v. kept _)))
     where
       as-one : (x y : Bool) → cond x true (y || false) ≡ x || y
       as-one true y = refl
@@ -146,12 +146,10 @@ module _ (b : Books) (u : ThreadUsage) (now : ℕ) where
 
 pub every-entry : EveryEntry
 unfolding entryOf EntryBy
-every-entry b u reading op = by-test (enterOf b u (stampOf (reading .0)) op) (busy b op) (entered (full b u (stampOf (reading .0)) op) (enterOf b u (stampOf (reading .0)) op) (entry-by b u (stampOf (reading .0)) op))
+every-entry b u reading op =
+    carried entryNumber E.Refused (enterOf b u (stampOf (reading .0)) op) (entryTests b op) ∙
+    ap (inOrder (entryTests b op) numberOf) (entered (full b u (stampOf (reading .0)) op) (enterOf b u (stampOf (reading .0)) op) (entry-by b u (stampOf (reading .0)) op))
   where
     entered : (t : Bool) (x : Entered) → EntryBy t x → entryNumber x ≡ cond t (numberOf Overflow) ok
     entered t (E.Accepted e) h = rw h refl
     entered t (E.Refused why) h = rw (h .0, h .1) refl
-
-    by-test : {n : ℤ} (x : Entered) (t : Bool) → entryNumber x ≡ n → entryNumber (cond t (E.Refused Already) x) ≡ cond t (numberOf Already) n
-    by-test x true e = refl
-    by-test x false e = e

@@ -1,10 +1,11 @@
 -- An operation over the books and the one record that it concerns: 01's tests of it, which record that is, and its entry.
 use Prim.Native.Nat.{ℕ}
 use mathlib.Core.Bool.{Bool, false, cond, not, _&&_}
-use mathlib.Core.List.{[], _∷_}
+use mathlib.Core.List.{List, [], _∷_}
 use lib.Dec.{leb}
+use Rattle.error.specs.declared.Refusal.{Refusal}
 use Rattle.error.specs.declared.Refusal.the-variants.{Already}
-use Rattle.error.specs.InOrder.{inOrder}
+use Rattle.error.specs.InOrder.{Row, inOrder}
 use Rattle.units.specs.declared.Cycles.{Cycles}
 use Rattle.usage.specs.declared.ThreadUsage.{ThreadUsage}
 use Rattle.books.specs.declared.Books.{Books}
@@ -19,17 +20,21 @@ use Rattle.books.specs.Entries.{stopped, enterOf}
 abbrev pub nothingBooked : Books
 nothingBooked = record { stamp = 0; running = 0; total = record { 0 = 0 } }
 
+-- a table of so many slots has no record of a thread
+abbrev pub noThread : ℕ → ℕ → Bool
+noThread slots i = leb slots i
+
 -- a running thread without a record
 unfoldable pub unrecorded : Books → ℕ → Bool
-unrecorded b slots = not (stopped b) && leb slots (b .running)
+unrecorded b slots = not (stopped b) && noThread slots (b .running)
 
--- a thread number past the table
+-- an operation that names a thread past the table
 unfoldable pub past : Operation → ℕ → Bool
-past (O.Start i) slots = leb slots i
-past (O.Switch i) slots = leb slots i
+past (O.Start i) slots = noThread slots i
+past (O.Switch i) slots = noThread slots i
 past O.Stop slots = false
-past (O.Enable i) slots = leb slots i
-past (O.Disable i) slots = leb slots i
+past (O.Enable i) slots = noThread slots i
+past (O.Disable i) slots = noThread slots i
 
 -- start while one runs
 unfoldable pub busy : Books → Operation → Bool
@@ -48,6 +53,9 @@ concerned b O.Stop = cond (stopped b) 0 (b .running)
 concerned b (O.Enable i) = i
 concerned b (O.Disable i) = i
 
--- over the books and one record: a start while one runs is refused
+-- what is tested over the books and one record: a start while one runs is refused
+abbrev pub entryTests : Books → Operation → List (Row Refusal)
+entryTests b op = (busy b op, Already) ∷ []
+
 unfoldable pub entryOf : Books → ThreadUsage → Cycles → Operation → Entered
-entryOf b u reading op = inOrder ((busy b op, Already) ∷ []) E.Refused (enterOf b u (stampOf (reading .0)) op)
+entryOf b u reading op = inOrder (entryTests b op) E.Refused (enterOf b u (stampOf (reading .0)) op)

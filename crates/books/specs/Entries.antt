@@ -50,11 +50,15 @@ unfoldable pub onward : Entered → (Entry → Entered) → Entered
 onward (E.Accepted e) go-on = go-on e
 onward (E.Refused why) go-on = E.Refused why
 
+-- the open stretch's cycles were it closed now: its stamp difference
+abbrev pub openCycles : Books → ℕ → ℕ
+openCycles b now = elapsedCycles now (b .stamp)
+
 -- A closed stretch adds its stamp difference to the machine total and, if tracked, to the thread's. A sum that won't fit: -139.
 unfoldable pub closeOf : Books → ThreadUsage → ℕ → Entered
 closeOf b u now =
-    inOrder ((ltb max64 (b .total .0 + elapsedCycles now (b .stamp)), Overflow) ∷ []) E.Refused
-    (withChange (charged u (elapsedCycles now (b .stamp))) (λ v. entered (elapsedCycles now (b .stamp)) (shutOf b (elapsedCycles now (b .stamp))) v))
+    inOrder ((ltb max64 (b .total .0 + openCycles b now), Overflow) ∷ []) E.Refused
+    (withChange (charged u (openCycles b now)) (λ v. entered (openCycles b now) (shutOf b (openCycles b now)) v))
 
 -- Stop closes and, with none running, returns 0 cycles.
 unfoldable pub stopOf : Books → ThreadUsage → ℕ → Entered

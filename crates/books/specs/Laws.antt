@@ -2,15 +2,15 @@
 use Prim.Native.Nat.{ℕ, _+_}
 use mathlib.Core.Path.{_≡_}
 use mathlib.Core.Bool.{Bool, true, false, cond, not, _&&_, _||_}
-use mathlib.Core.List.{[], _∷_}
+use mathlib.Core.List.{List, [], _∷_, _++_}
 use lib.IntN.{ℤ}
 use lib.Dec.{ltb, eqb}
-use Rattle.error.specs.declared.Refusal.the-variants.{Already, Overflow}
+use Rattle.error.specs.declared.Refusal.{Refusal}
+use Rattle.error.specs.declared.Refusal.the-variants.{Overflow}
 use Rattle.error.specs.Numbers.{ok, max32, max64, numberOf}
-use Rattle.error.specs.InOrder.{inOrder}
+use Rattle.error.specs.InOrder.{Row, inOrder}
 use Rattle.units.specs.declared.Cycles.{Cycles}
 use Rattle.usage.specs.declared.ThreadUsage.{ThreadUsage}
-use Rattle.usage.specs.Leaves.{elapsedCycles}
 use Rattle.books.specs.declared.Books.{Books}
 use Rattle.books.specs.declared.Entry.{Entry}
 use Rattle.books.specs.declared.Entered.{Entered}
@@ -18,8 +18,8 @@ use Rattle.books.specs.declared.Entered.the-variants as E
 use Rattle.books.specs.declared.Operation.{Operation}
 use Rattle.books.specs.declared.Operation.the-variants as O
 use Rattle.books.specs.Stamp.{stampOf}
-use Rattle.books.specs.Entries.{stopped, runs}
-use Rattle.books.specs.Enter.{busy, entryOf}
+use Rattle.books.specs.Entries.{stopped, runs, openCycles}
+use Rattle.books.specs.Enter.{entryTests, entryOf}
 
 -- whether it closes the open stretch
 unfoldable pub closes : Books → ThreadUsage → Operation → Bool
@@ -28,6 +28,10 @@ closes b u (O.Switch i) = not (stopped b)
 closes b u O.Stop = not (stopped b)
 closes b u (O.Enable i) = not (u .«track_usage») && runs b i
 closes b u (O.Disable i) = u .«track_usage» && runs b i
+
+-- the cycles that it closes: between the open stretch's stamp and its own
+abbrev pub closedCycles : Books → ThreadUsage → ℕ → Operation → ℕ
+closedCycles b u now op = cond (closes b u op) (openCycles b now) 0
 
 -- the flag afterwards
 unfoldable pub flagAfter : Operation → Bool → Bool
@@ -61,7 +65,7 @@ runningAfter b (O.Enable i) = b .running
 runningAfter b (O.Disable i) = b .running
 
 pub record EntryIs (b : Books) (u : ThreadUsage) (now : ℕ) (op : Operation) (e : Entry) : Type 0 where
-  pub cycles : e .cycles ≡ cond (closes b u op) (elapsedCycles now (b .stamp)) 0
+  pub cycles : e .cycles ≡ closedCycles b u now op
   pub machine : e .books .total .0 ≡ b .total .0 + e .cycles
   pub total : e .usage .«total_cycles» .0 ≡ u .«total_cycles» .0 + cond (u .«track_usage») (e .cycles) 0
   pub flag : e .usage .«track_usage» ≡ flagAfter op (u .«track_usage»)
@@ -73,8 +77,16 @@ pub record EntryIs (b : Books) (u : ThreadUsage) (now : ℕ) (op : Operation) (e
 unfoldable pub tooMany : Books → ThreadUsage → ℕ → Bool
 tooMany b u cycles = ltb max64 (b .total .0 + cycles) || (u .«track_usage» && ltb max64 (u .«total_cycles» .0 + cycles))
 
+-- a sum that would not fit, where it closes
+abbrev pub sumAbove : Books → ThreadUsage → ℕ → Operation → Bool
+sumAbove b u now op = closes b u op && tooMany b u (openCycles b now)
+
 unfoldable pub full : Books → ThreadUsage → ℕ → Operation → Bool
-full b u now op = (closes b u op && tooMany b u (elapsedCycles now (b .stamp))) || (rises op (u .«track_usage») && eqb (u .«num_windows») max32)
+full b u now op = sumAbove b u now op || (rises op (u .«track_usage») && eqb (u .«num_windows») max32)
+
+-- the last test of all
+abbrev pub fullTests : Books → ThreadUsage → ℕ → Operation → List (Row Refusal)
+fullTests b u now op = (full b u now op, Overflow) ∷ []
 
 abbrev pub entryNumber : Entered → ℤ
 entryNumber (E.Accepted e) = ok
@@ -84,4 +96,4 @@ entryNumber (E.Refused why) = numberOf why
 abbrev pub EveryEntry : Type 0
 EveryEntry =
     (b : Books) (u : ThreadUsage) (reading : Cycles) (op : Operation) →
-    entryNumber (entryOf b u reading op) ≡ inOrder ((busy b op, Already) ∷ (full b u (stampOf (reading .0)) op, Overflow) ∷ []) numberOf ok
+    entryNumber (entryOf b u reading op) ≡ inOrder (entryTests b op ++ fullTests b u (stampOf (reading .0)) op) numberOf ok

@@ -4,7 +4,7 @@ ghost use mathlib.Core.Bool.{cond};
 ghost use lib.Dec.{eqb};
 ghost use Rattle.books.specs.Stamp.{stampOf};
 ghost use Rattle.books.specs.Entries.{runs, charged, closeOf, stopOf, switchOf, altered, reopenOf, alterOf, enterOf, openOf};
-ghost use Rattle.books.specs.Enter.{nothingBooked, unrecorded, past, busy, entryOf, concerned};
+ghost use Rattle.books.specs.Enter.{nothingBooked, noThread, unrecorded, past, busy, entryOf, concerned};
 ghost use Rattle.books.specs.Says.{enteredWhy};
 use error::Refusal;
 use units::Cycles;
@@ -215,12 +215,18 @@ impl Entered {
     }
 }
 
-// Whether a thread runs for which a table of so many slots has no record.
+// Whether a table of so many slots has no record of a thread.
+pub fn no_thread(slots: usize, thread: u32) -> bool
+    ensures { λ r. ⌜ r ≡ noThread slots thread ⌝ }
+{
+    slots <= thread as usize
+}
+
+// Whether a thread runs that has no record.
 pub fn unrecorded(books: Books, slots: usize) -> bool
     ensures { λ r. ⌜ r ≡ unrecorded books slots ⌝ }
 {
-    let running = books.running as usize;
-    (books.stamp != 0) & (slots <= running)
+    (books.stamp != 0) & no_thread(slots, books.running)
 }
 
 // Whether the operation names a thread past a table of so many slots.
@@ -228,11 +234,11 @@ pub fn past(operation: Operation, slots: usize) -> bool
     ensures { λ r. ⌜ r ≡ past operation slots ⌝ }
 {
     match operation {
-        Operation::Start(thread) => slots <= thread as usize,
-        Operation::Switch(thread) => slots <= thread as usize,
+        Operation::Start(thread) => no_thread(slots, thread),
+        Operation::Switch(thread) => no_thread(slots, thread),
         Operation::Stop => false,
-        Operation::Enable(thread) => slots <= thread as usize,
-        Operation::Disable(thread) => slots <= thread as usize,
+        Operation::Enable(thread) => no_thread(slots, thread),
+        Operation::Disable(thread) => no_thread(slots, thread),
     }
 }
 

@@ -1,6 +1,6 @@
--- What a record changes of counter and clock: 01's table, and then the record's effect, for a state that was found whole. Made to the core it is a step's first part (`same` in crates/machine/proofs/Changing.antt).
+-- Inside: what a record changes, by the rows of crate table. That the change, made, is 01's step is `step-made` (crates/machine/proofs/Tying.antt).
 use Prim.Native.Nat.{ℕ}
-use mathlib.Core.Bool.{cond}
+use mathlib.Core.Bool.{Bool, cond}
 use Rattle.error.specs.InOrder.{inOrder}
 use Rattle.counter.specs.declared.Ran.{Ran}
 use Rattle.counter.specs.declared.Ran.the-variants as R
@@ -25,6 +25,7 @@ use Rattle.table.specs.declared.tasks.Then.{Then}
 use Rattle.table.specs.declared.tasks.Then.the-variants as W
 use Rattle.table.specs.Task.{taskOf, askedBy}
 use Rattle.table.specs.Table.{table}
+use Rattle.table.specs.Says.{sampleTells, announcementTells}
 use Rattle.changes.specs.declared.Change.{Change}
 use Rattle.changes.specs.declared.Change.the-variants as X
 
@@ -33,18 +34,18 @@ unfoldable pub ranChange : Ran → Change
 ranChange (R.Accepted counter) = X.Ran counter
 ranChange (R.Refused why) = X.Refused Why.Malformed
 
--- Sample: elapsed, wrap. Kinds 3 to 7 go on at its reading.
+-- A sample is told. Kinds 3 to 7 go on at its reading.
 abbrev pub thenChange : Then → SampleTaken → Change
-thenChange W.Tell taken = X.Told (taken .timer) (record { x = taken .elapsed; y = cond (taken .wrap) 1 0 })
+thenChange W.Tell taken = X.Told (taken .timer) (sampleTells taken)
 thenChange (W.Operate op) taken = X.Enter (taken .timer) op (taken .reading)
 
 unfoldable pub sampledChange : Then → Sampled → Change
 sampledChange then (S.Accepted taken) = thenChange then taken
 sampledChange then (S.Refused why) = X.Refused Why.Malformed
 
--- Announce: dticks, announced. What the leaf refuses changes nothing.
+-- What the leaf refuses changes nothing.
 unfoldable pub announcedChange : Announced → Change
-announcedChange (A.Accepted a) = X.Told (a .timer) (record { x = a .dticks .0; y = a .timer .clock .announced .0 })
+announcedChange (A.Accepted a) = X.Told (a .timer) (announcementTells a)
 announcedChange (A.Refused why) = X.Refused (Why.NotAnnounced why)
 
 unfoldable pub setUpChange : SetUp → Change
@@ -62,6 +63,10 @@ effectChange c (T.Setup s) = setUpChange (setUp (s .period) (s .tick))
 unfoldable pub taskChange : Core → ℕ → Task → Change
 taskChange c slots task = inOrder (table c (askedBy (c .books) slots task)) X.Refused (effectChange c task)
 
-unfoldable pub changeOf : Core → ℕ → Decoded → Change
-changeOf c slots (D.Accepted r) = taskChange c slots (taskOf r)
-changeOf c slots (D.Refused why) = X.Refused Why.BadRecord
+unfoldable pub recordChange : Core → ℕ → Decoded → Change
+recordChange c slots (D.Accepted r) = taskChange c slots (taskOf r)
+recordChange c slots (D.Refused why) = X.Refused Why.BadRecord
+
+-- a malformed state turns every record away
+unfoldable pub changeOf : Bool → Core → ℕ → Decoded → Change
+changeOf broken c slots d = cond broken (X.Refused Why.Malformed) (recordChange c slots d)

@@ -1,4 +1,4 @@
-// What a record changes of counter and clock, or why it is turned away: each kind's tests by 01's table, and then its effect.
+// What a record changes, or why it is turned away: each kind's tests by 01's table, and then its effect.
 ghost use mathlib.Core.Path.{_≡_};
 ghost use mathlib.Core.Bool.{cond};
 ghost use Rattle.trace.specs.Decode.{decodeOf};
@@ -168,7 +168,7 @@ fn setup_change(core: Core, slots: usize, setup: Setup) -> Change
     }
 }
 
-pub fn task_change(core: Core, slots: usize, task: Task) -> Change
+fn task_change(core: Core, slots: usize, task: Task) -> Change
     ensures { λ r. ⌜ r ≡ taskChange core slots task ⌝ }
 {
     match task {
@@ -180,10 +180,26 @@ pub fn task_change(core: Core, slots: usize, task: Task) -> Change
     }
 }
 
-// What the record at a place of a trace changes, of a state that was found whole: its form is not looked at again.
-pub fn change_at(core: Core, slots: usize, trace: &[u8], at: usize) -> Change
-    ensures { λ r. ⌜ r ≡ changeOf core slots (decodeOf (now (trace .entry)) at) ⌝ }
+// What a decoded record changes. A malformed state turns every record away, and stays as it is.
+pub fn change_of(broken: bool, core: Core, slots: usize, decoded: Decoded) -> Change
+    ensures { λ r. ⌜ r ≡ changeOf broken core slots decoded ⌝ }
 {
+    if broken {
+        return Change::Refused(Reason::Malformed);
+    }
+    match decoded {
+        Decoded::Accepted(accepted) => task_change(core, slots, task_of(accepted)),
+        Decoded::Refused(_) => Change::Refused(Reason::BadRecord),
+    }
+}
+
+// The same of the record at a place of a trace. It is taken apart where it is decoded: handed on, it would be copied.
+pub fn change_at(broken: bool, core: Core, slots: usize, trace: &[u8], at: usize) -> Change
+    ensures { λ r. ⌜ r ≡ changeOf broken core slots (decodeOf (now (trace .entry)) at) ⌝ }
+{
+    if broken {
+        return Change::Refused(Reason::Malformed);
+    }
     match trace::decode(trace, at) {
         Decoded::Accepted(accepted) => task_change(core, slots, task_of(accepted)),
         Decoded::Refused(_) => Change::Refused(Reason::BadRecord),

@@ -1,26 +1,26 @@
 -- With no premises: what a run from setup keeps between its events, and what it shows at each.
-use Prim.Native.Nat.{ℕ, zero, suc, _+_, _-_, _*_, _/_, _%_, _≤_, _<_}
+use Prim.Native.Nat.{ℕ, _+_, _-_, _*_, _/_, _%_, _≤_, _<_}
 use mathlib.Core.Path.{_≡_, refl, sym, ap, _∙_}
 use mathlib.Core.Bool.{Bool, true, false, cond, false≢true}
 use native.Mathlib.Omega.{arith}
-use native.Mathlib.Nat.{add-mul, one-mul, zero-mul, suc-mul, div-add-mod', mod-lt, add-mul-mod-self-right, zero-mod, mul-mod-left, div-lt-iff-lt-mul, div-eq-of-lt-le}
+use native.Mathlib.Nat.{add-mul, one-mul, zero-mul, div-add-mod', mod-lt, add-mul-mod-self-right, zero-mod, mul-mod-left, div-lt-iff-lt-mul, div-eq-of-lt-le}
 use borrow.Author.Tests.{le-leb}
 use Rattle.error.specs.Numbers.{max32, max64}
 use Rattle.counter.specs.Cycle.{runN}
 use Rattle.counter.proofs.Cycles.{after}
 use Rattle.counter.proofs.Outcomes.{in-range-of}
-use Rattle.systick.specs.Leaves.{announceValue}
 use Rattle.systick.proofs.Outcomes.{announced-now}
 use Rattle.clock.specs.declared.Timer.{Timer}
 use Rattle.clock.specs.declared.Gaps.{Gaps}
-use Rattle.clock.specs.Timer.{accountedFor, wellFormed, setup}
-use Rattle.clock.specs.Sample.{atC, decision, readingOf, sampleValue}
-use Rattle.clock.specs.Announce.{announceOf, announcedBy, announcementFrom}
-use Rattle.clock.specs.Holds.{NeverAhead, Tells}
-use Rattle.clock.proofs.Outcomes.{announce-decided}
-use Rattle.clock.proofs.Stretches.{Stretches, stretches}
-use Rattle.clock.proofs.Owed.{Owes, run-owes, short, sample-owes}
-use Rattle.clock.proofs.Steps.{SampleLet, announced}
+use Rattle.clock.specs.declared.Announced.the-variants as A
+use Rattle.clock.specs.Timer.{wellFormed, setup}
+use Rattle.clock.specs.Sample.{decision, readingOf, sampleValue}
+use Rattle.clock.specs.Announce.{announceOf, announcement}
+use Rattle.clock.proofs.Holds.{NeverAhead, Tells}
+use Rattle.clock.proofs.Outcomes.{announcedBy, announce-decided}
+use Rattle.clock.proofs.Stretches.{atC, Stretches, stretches}
+use Rattle.clock.proofs.Owed.{Owes, accounted, run-owes, short, sample-owes}
+use Rattle.clock.proofs.Steps.{SampleLet}
 
 -- seen: the samples so far that answered a wrap
 pub record Accounts (l seen : ℕ) (t : Timer) : Type 0 where
@@ -35,11 +35,6 @@ pub record Accounts (l seen : ℕ) (t : Timer) : Type 0 where
   pub near : t .clock .count .0 < t .clock .announced .0 + t .clock .tick
   pub low : t .clock .count .0 + t .clock .overflow ≤ t .clock .last .0
   pub high : t .clock .last .0 < t .clock .count .0 + t .clock .overflow + l
-
--- a period at least is owed
-a-period : (owed l : ℕ) → 1 ≤ owed → l ≤ owed * l
-a-period zero l h = omega arith
-a-period (suc n) l h = omega (arith, suc-mul n l)
 
 pub at-setup : (l tick : ℕ) → 2 ≤ l → l ≤ 16777215 → 1 ≤ tick → Accounts l 0 (setup l tick)
 at-setup l tick a b p = record {
@@ -78,14 +73,10 @@ module _ (l seen : ℕ) (t : Timer) (k : Accounts l seen t) where
         high = k .high;
       }
 
-  -- the state is never taken for malformed: a set flag stands for a period that is owed
+  -- the state is never taken for malformed
   pub formed : wellFormed t ≡ true
   unfolding wellFormed
-  formed = simp (in-range-of (t .counter) (k .owes .valid), le-leb 1 (t .clock .tick) (k .ticks)) (le-leb _ _ (within-cycles (t .counter .flag) refl))
-    where
-      within-cycles : (flag : Bool) → t .counter .flag ≡ flag → accountedFor t ≤ t .counter .cycles .0
-      within-cycles true e = rw e (omega (arith, k .owes .valid .period, k .owes .total, a-period (k .owed) l (k .owes .flag e)))
-      within-cycles false e = rw e (omega (arith, k .owes .valid .period, k .owes .total))
+  formed = simp (in-range-of (t .counter) (k .owes .valid), le-leb 1 (t .clock .tick) (k .ticks)) (le-leb _ _ (accounted t (k .owes)))
 
   module _ (g : Gaps) where
     parts : Stretches l (t .counter) g
@@ -140,30 +131,42 @@ module _ (l seen : ℕ) (t : Timer) (k : Accounts l seen t) where
       let below : (new - t .clock .announced .0) / t .clock .tick < 4294967296 = div-lt-iff-lt-mul {k = t .clock .tick} (k .ticks) .1 (omega arith) in
       omega arith
 
-  pub accepts : announceOf t ≡ announced t
+  pub accepts : announceOf t ≡ A.Accepted (announcement t)
   unfolding announcedBy
   accepts =
       announce-decided t formed ∙
       ap (announcedBy t) (announced-now (t .clock .count) (t .clock .announced) (t .clock .overflow) (t .clock .tick) (k .ticks) (omega (arith, k .owes .total, k .owes .valid .high)) (omega arith) due-fit)
 
-  -- the announcement: the largest multiple within the new count, and how far it lags the last reading
-  pub tells : Tells l (t .clock .tick) (t .clock .announced .0 + (new - t .clock .announced .0) / t .clock .tick * t .clock .tick) new (t .clock .last .0) seen
-  tells =
+  -- what is then announced, and that it is the largest multiple within the new count
+  abbrev told : ℕ
+  told = t .clock .announced .0 + (new - t .clock .announced .0) / t .clock .tick * t .clock .tick
+
+  due : (told ≤ new) × (new < told + t .clock .tick)
+  due =
       let whole = div-add-mod' (new - t .clock .announced .0) (t .clock .tick) in
       let rest = mod-lt (new - t .clock .announced .0) (k .ticks) in
+      (omega arith, omega arith)
+
+  multiple-told : told % t .clock .tick ≡ 0
+  multiple-told = rw add-mul-mod-self-right (k .multiple)
+
+  -- the new count is every whole period within the last reading
+  whole-periods : new ≡ t .clock .last .0 / l * l
+  whole-periods = k .periods ∙ ap (λ (n : ℕ). n * l) (sym (div-eq-of-lt-le l (let e = k .periods in let h = k .low in omega arith) (let e = k .periods in let h = k .high in omega (arith, add-mul seen 1 l, one-mul l))))
+
+  pub tells : Tells l (t .clock .tick) told new (t .clock .last .0) seen
+  tells =
+      let near = due in
+      let e = whole-periods in
       record {
-        multiple = rw add-mul-mod-self-right (k .multiple);
-        within = omega arith;
-        largest = omega arith;
+        largest = record { multiple = multiple-told; within = omega arith; largest = omega arith; lag = omega (arith, k .owes .valid .least) };
         periods = k .periods;
-        whole = k .periods ∙ ap (λ (n : ℕ). n * l) (sym (div-eq-of-lt-le l (let e = k .periods in let h = k .low in omega arith) (let e = k .periods in let h = k .high in omega (arith, add-mul seen 1 l, one-mul l))));
-        behind = k .low;
-        lag = omega (arith, k .owes .valid .least);
+        whole = e;
       }
 
-  pub announce-keeps : Accounts l seen (announcementFrom t (announceValue (t .clock .count) (t .clock .announced) (t .clock .overflow) (t .clock .tick)) .timer)
+  pub announce-keeps : Accounts l seen (announcement t .timer)
   announce-keeps =
-      let told = tells in
+      let near = due in
       record {
         owed = k .owed;
         owes = record { valid = k .owes .valid; total = omega (arith, k .owes .total); flag = k .owes .flag };
@@ -171,9 +174,9 @@ module _ (l seen : ℕ) (t : Timer) (k : Accounts l seen t) where
         room = omega arith;
         ticks = k .ticks;
         periods = omega (arith, k .periods);
-        multiple = told .multiple;
-        within = told .within;
-        near = told .largest;
+        multiple = multiple-told;
+        within = near .0;
+        near = near .1;
         low = omega arith;
         high = omega arith;
       }

@@ -1,5 +1,5 @@
 -- Under demand 3's premises: every period but those of the wraps since the last C is counted, so a reading is T at its C.
-use Prim.Native.Nat.{ℕ, zero, suc, _+_, _-_, _*_, _≤_, _<_}
+use Prim.Native.Nat.{ℕ, zero, suc, _+_, _*_, _≤_, _<_}
 use mathlib.Core.Path.{_≡_, refl, sym, ap, _∙_}
 use mathlib.Core.Bool.{Bool, true, false, cond, _||_}
 use native.Mathlib.Omega.{arith}
@@ -10,14 +10,13 @@ use Rattle.counter.specs.declared.Counter.{Counter}
 use Rattle.counter.specs.Cycle.{runN, wraps, cleared}
 use Rattle.counter.specs.Valid.{Valid}
 use Rattle.counter.proofs.Cycles.{after, valid-cleared}
-use Rattle.systick.specs.Leaves.{announceValue}
 use Rattle.clock.specs.declared.Timer.{Timer}
 use Rattle.clock.specs.declared.Gaps.{Gaps}
 use Rattle.clock.specs.Timer.{setup}
-use Rattle.clock.specs.Sample.{atB, atC, decision, readingOf, sampleValue}
-use Rattle.clock.specs.Announce.{announcementFrom}
-use Rattle.clock.specs.Run.{wrapsAC, FairSample}
-use Rattle.clock.proofs.Stretches.{Stretches, stretches}
+use Rattle.clock.specs.Sample.{decision, readingOf, sampleValue}
+use Rattle.clock.specs.Announce.{announcement}
+use Rattle.clock.proofs.Run.{wrapsAC, FairSample}
+use Rattle.clock.proofs.Stretches.{atB, atC, Stretches, stretches}
 
 -- before, since: the real wraps up to the last C, and after it
 pub record Faithful (l before since : ℕ) (t : Timer) : Type 0 where
@@ -75,7 +74,7 @@ module _ (l before since : ℕ) (t : Timer) (k : Faithful l before since t) wher
         counted = k .counted;
       }
 
-  pub announce-keeps : Faithful l before since (announcementFrom t (announceValue (t .clock .count) (t .clock .announced) (t .clock .overflow) (t .clock .tick)) .timer)
+  pub announce-keeps : Faithful l before since (announcement t .timer)
   announce-keeps = record { valid = k .valid; total = omega arith; flag = k .flag; counted = omega arith }
 
   module _ (g : Gaps) (fair : FairSample since t g) where

@@ -1,9 +1,10 @@
 pub mod Outcomes
 pub mod Stretches
+pub mod Run
+pub mod Holds
 pub mod Owed
 pub mod Sampling
 pub mod Steps
 pub mod Accounts
 pub mod Faithful
 pub mod Runs
-pub mod Shown

@@ -1,14 +1,16 @@
 -- Each outcome of each entry of the clock, from the facts that bring it about.
 use Prim.Native.Nat.{ℕ, _+_, _-_, _*_, _≤_, _<_}
 use mathlib.Core.Path.{_≡_, refl, sym, ap, _∙_}
-use mathlib.Core.Bool.{Bool, true, false, _&&_}
+use mathlib.Core.Bool.{Bool, true, false, not, _&&_}
 use native.Mathlib.Omega.{arith}
-use borrow.Author.Tests.{le-leb, lt-leb, le-ltb, lt-ltb, leb-true, leb-false, eq-eqb, ne-eqb}
-use lib.Dec.{leb}
-use Rattle.error.proofs.Tests.{clash}
+use borrow.Author.Tests.{le-leb, lt-leb, leb-true, leb-false, eqb-false}
+use lib.Dec.{leb, ltb, eqb}
+use Rattle.error.proofs.Tests.{clash, same-test}
 use Rattle.error.specs.declared.Refusal.{Refusal}
 use Rattle.error.specs.declared.Refusal.the-variants.{Invalid, Again, Overflow}
-use Rattle.error.specs.Numbers.{max32, max64}
+use Rattle.error.specs.Numbers.{max32}
+use Rattle.error.proofs.Ordered.{carried}
+use Rattle.systick.specs.Leaves.{announceDecide, announceTests, announceValue}
 use Rattle.systick.specs.declared.AnnounceDecideResult.{AnnounceDecideResult}
 use Rattle.systick.specs.declared.AnnounceDecide.{AnnounceDecide}
 use Rattle.systick.specs.declared.AnnounceDecide.the-variants as D
@@ -17,19 +19,19 @@ use Rattle.counter.specs.declared.Counter.{Counter}
 use Rattle.counter.specs.declared.Ran.{Ran}
 use Rattle.counter.specs.declared.Ran.the-variants as R
 use Rattle.counter.specs.Cycle.{fresh}
-use Rattle.counter.specs.Entries.{goodPeriod, inRange, startedOf}
-use Rattle.counter.specs.Says.{ranWhy}
-use Rattle.counter.specs.Valid.{Valid}
-use Rattle.counter.proofs.Outcomes.{both, valid-of, started-good, started-bad}
+use Rattle.counter.specs.Entries.{goodPeriod, inRange, cyclesAbove, startedOf}
+use Rattle.counter.specs.Valid.{minPeriod, maxPeriod, Valid}
+use Rattle.counter.proofs.Outcomes.{both, period-bounds, good-of-bounds, valid-of, started-good}
 use Rattle.clock.specs.declared.Timer.{Timer}
 use Rattle.clock.specs.declared.Gaps.{Gaps}
 use Rattle.clock.specs.declared.SetUp.the-variants as U
 use Rattle.clock.specs.declared.Sampled.the-variants as S
 use Rattle.clock.specs.declared.Announcement.{Announcement}
+use Rattle.clock.specs.declared.Announced.{Announced}
 use Rattle.clock.specs.declared.Announced.the-variants as A
-use Rattle.clock.specs.Timer.{setup, setUp, accountedFor, wellFormed}
-use Rattle.clock.specs.Sample.{sampleOf, sampleValue, Ready}
-use Rattle.clock.specs.Announce.{announceOf, announcedBy, announcementFrom, decided}
+use Rattle.clock.specs.Timer.{setup, badSetup, setUp, GoodSetup, accountedFor, wellFormed}
+use Rattle.clock.specs.Sample.{wholeOf, crowded, sampleOf, sampleValue, Ready}
+use Rattle.clock.specs.Announce.{announceOf, announcementFrom}
 
 -- a test of a sum against a limit, when one part is taken off the limit first
 pub shifted : (a b limit : ℕ) → b ≤ limit → leb a (limit - b) ≡ leb (a + b) limit
@@ -42,18 +44,28 @@ shifted a b limit h = by-test (leb (a + b) limit) refl
 pub past : (a b limit : ℕ) → limit < b → false ≡ leb (a + b) limit
 past a b limit h = sym (lt-leb (a + b) limit (omega arith))
 
+-- what the test of a setup makes sure of
+pub record SetupFacts (period tick : ℕ) : Type 0 where
+  pub least : minPeriod ≤ period
+  pub most : period ≤ maxPeriod
+  pub ticks : 1 ≤ tick
+
 module _ (period tick : ℕ) where
-  pub set-up : goodPeriod period ≡ true → (tick ≡ 0 → ⊥) → setUp period tick ≡ U.Accepted (setup period tick)
+  pub setup-bad : badSetup period tick ≡ true → setUp period tick ≡ U.Refused Invalid
   unfolding setUp
-  set-up e n = simp (e, ne-eqb _ _ n)
+  setup-bad e = rw e refl
 
-  pub no-tick : goodPeriod period ≡ true → tick ≡ 0 → setUp period tick ≡ U.Refused Invalid
+  pub set-up : GoodSetup period tick → setUp period tick ≡ U.Accepted (setup period tick)
   unfolding setUp
-  no-tick e z = simp (e, eq-eqb _ _ z)
+  set-up e = rw e refl
 
-  pub bad-period : goodPeriod period ≡ false → setUp period tick ≡ U.Refused Invalid
-  unfolding setUp
-  bad-period e = simp e
+  pub setup-facts : GoodSetup period tick → SetupFacts period tick
+  setup-facts = by-tests (goodPeriod period) refl (eqb tick 0) refl
+    where
+      by-tests : (good : Bool) → goodPeriod period ≡ good → (none : Bool) → eqb tick 0 ≡ none → not (good && not none) ≡ false → SetupFacts period tick
+      by-tests true g false z e = let bounds = period-bounds period g in let some = eqb-false tick 0 z in record { least = bounds .0; most = bounds .1; ticks = omega arith }
+      by-tests true g true z e = clash (cc)
+      by-tests false g none z e = clash (cc)
 
 module _ (t : Timer) where
   -- the tests of a state, as the code makes them
@@ -70,6 +82,10 @@ module _ (t : Timer) where
   unfolding wellFormed
   formed-valid e = valid-of (t .counter) (both _ _ (both (inRange (t .counter) && leb 1 (t .clock .tick)) _ e .0) .0)
 
+  -- 01's test of the overflow, with one added on both sides
+  pub crowding : ltb 4294967296 (t .clock .overflow + 2 * t .counter .period) ≡ crowded t
+  crowding = same-test 4294967296 (t .clock .overflow + 2 * t .counter .period) max32 (t .clock .overflow + 2 * t .counter .period - 1) (λ h. omega arith) (λ h. omega arith)
+
   pub formed-behind : wellFormed t ≡ true → accountedFor t ≤ t .counter .cycles .0
   unfolding wellFormed
   formed-behind e = leb-true _ _ (both (inRange (t .counter) && leb 1 (t .clock .tick)) (leb (accountedFor t) (t .counter .cycles .0)) e .1)
@@ -79,20 +95,28 @@ module _ (t : Timer) (g : Gaps) where
   unfolding sampleOf
   malformed e = simp e
 
-  pub announce-first : wellFormed t ≡ true → max32 < t .clock .overflow + 2 * t .counter .period - 1 → sampleOf t g ≡ S.Refused Again
+  pub announce-first : wellFormed t ≡ true → crowded t ≡ true → sampleOf t g ≡ S.Refused Again
   unfolding sampleOf
-  announce-first e h = simp (e, lt-ltb _ _ h)
+  announce-first e h = simp (e, h)
 
-  pub cycles-above : wellFormed t ≡ true → t .clock .overflow + 2 * t .counter .period - 1 ≤ max32 → max64 < t .counter .cycles .0 + (g .p + g .q + g .r) → sampleOf t g ≡ S.Refused Overflow
+  pub cycles-above : wellFormed t ≡ true → crowded t ≡ false → cyclesAbove (t .counter) (wholeOf g) ≡ true → sampleOf t g ≡ S.Refused Overflow
   unfolding sampleOf
-  cycles-above e a h = simp (e, le-ltb _ _ a, lt-ltb _ _ h)
+  cycles-above e a h = simp (e, a, h)
 
-  pub sampled : wellFormed t ≡ true → t .clock .overflow + 2 * t .counter .period - 1 ≤ max32 → t .counter .cycles .0 + (g .p + g .q + g .r) ≤ max64 → sampleOf t g ≡ S.Accepted (sampleValue t g)
+  pub sampled : wellFormed t ≡ true → crowded t ≡ false → cyclesAbove (t .counter) (wholeOf g) ≡ false → sampleOf t g ≡ S.Accepted (sampleValue t g)
   unfolding sampleOf
-  sampled e a b = simp (e, le-ltb _ _ a, le-ltb _ _ b)
+  sampled e a b = simp (e, a, b)
 
-  pub ready : wellFormed t ≡ true → t .clock .overflow + 2 * t .counter .period - 1 ≤ max32 → t .counter .cycles .0 + (g .p + g .q + g .r) ≤ max64 → Ready t g
+  pub ready : wellFormed t ≡ true → crowded t ≡ false → cyclesAbove (t .counter) (wholeOf g) ≡ false → Ready t g
   ready e a b = record { valid = formed-valid t e; behind = formed-behind t e; room = a; fits = b }
+
+-- what the leaf decides, and what an announcement makes of it
+abbrev decided : Timer → AnnounceDecide
+decided t = announceDecide (t .clock .count) (t .clock .announced) (t .clock .overflow) (t .clock .tick)
+
+unfoldable pub announcedBy : Timer → AnnounceDecide → Announced
+announcedBy t (D.Accepted d) = A.Accepted (announcementFrom t d)
+announcedBy t (D.Refused why) = A.Refused why
 
 module _ (t : Timer) where
   pub announce-malformed : wellFormed t ≡ false → announceOf t ≡ A.Refused Invalid
@@ -100,27 +124,22 @@ module _ (t : Timer) where
   announce-malformed e = simp e
 
   pub announce-decided : wellFormed t ≡ true → announceOf t ≡ announcedBy t (decided t)
-  unfolding announceOf
-  announce-decided e = simp e
+  unfolding announceOf announcedBy announceDecide
+  announce-decided e =
+      rw e
+      (sym (carried (announcedBy t) D.Refused (D.Accepted (announceValue (t .clock .count) (t .clock .announced) (t .clock .overflow) (t .clock .tick)))
+      (announceTests (t .clock .count) (t .clock .announced) (t .clock .overflow) (t .clock .tick))))
 
--- setup, from what the counter answered
-module _ (period : ℕ) {answer : Ran} (p : answer ≡ startedOf period) where
-  pub start-given : {counter : Counter} → answer ≡ R.Accepted counter → (goodPeriod period ≡ true) × (counter ≡ fresh period)
-  start-given {counter} q = by-test (goodPeriod period) refl
-    where
-      by-test : (good : Bool) → goodPeriod period ≡ good → (goodPeriod period ≡ true) × (counter ≡ fresh period)
-      by-test true e = (e, cc (started-good period e))
-      by-test false e = clash (cc (started-bad period e))
+-- a setup that is not bad, from what the counter answered
+module _ (period tick : ℕ) (good : GoodSetup period tick) {answer : Ran} (p : answer ≡ startedOf period) where
+  started : answer ≡ R.Accepted (fresh period)
+  started = let facts = setup-facts period tick good in p ∙ started-good period (good-of-bounds period (facts .least) (facts .most))
 
-  pub start-refused : (tick : ℕ) {why handed-on : Refusal} → answer ≡ R.Refused why → handed-on ≡ ranWhy answer → U.Refused handed-on ≡ setUp period tick
-  unfolding ranWhy
-  start-refused tick {why} {handed-on} q r = by-test (goodPeriod period) refl
-    where
-      by-test : (good : Bool) → goodPeriod period ≡ good → U.Refused handed-on ≡ setUp period tick
-      by-test true e = clash (cc (started-good period e))
-      by-test false e =
-          let invalid : answer ≡ R.Refused Invalid = p ∙ started-bad period e in
-          ap U.Refused (r ∙ ap ranWhy invalid) ∙ sym (bad-period period tick e)
+  pub start-given : {counter : Counter} → answer ≡ R.Accepted counter → counter ≡ fresh period
+  start-given q = cc (started)
+
+  pub never-refused : {why : Refusal} → answer ≡ R.Refused why → ⊥
+  never-refused q = clash (cc (started))
 
 -- an announcement, from what the leaf answered
 module _ (t : Timer) (formed : wellFormed t ≡ true) {answer : AnnounceDecide} (p : answer ≡ decided t) where

@@ -12,8 +12,9 @@ use Rattle.counter.specs.Valid.{Valid}
 use Rattle.counter.proofs.Cycles.{after, valid-cleared}
 use Rattle.clock.specs.declared.Timer.{Timer}
 use Rattle.clock.specs.declared.Gaps.{Gaps}
-use Rattle.clock.specs.Sample.{atB, atC, decision, readingOf, sampleValue}
-use Rattle.clock.proofs.Stretches.{Stretches, stretches}
+use Rattle.clock.specs.Timer.{accountedFor}
+use Rattle.clock.specs.Sample.{decision, readingOf, sampleValue}
+use Rattle.clock.proofs.Stretches.{atB, atC, Stretches, stretches}
 
 -- owed: the periods of l cycles that ran and are not counted; one at least while the flag is set.
 -- slack: what a state that was handed in lacks besides, 0 in a run from setup
@@ -21,6 +22,19 @@ pub record Owes (l slack owed : ℕ) (t : Timer) : Type 0 where
   pub valid : Valid l (t .counter)
   pub total : t .counter .cycles .0 + t .counter .value ≡ t .clock .count .0 + t .clock .overflow + l + owed * l + slack
   pub flag : t .counter .flag ≡ true → 1 ≤ owed
+
+-- a period at least is owed
+a-period : (owed l : ℕ) → 1 ≤ owed → l ≤ owed * l
+a-period zero l h = omega arith
+a-period (suc n) l h = omega (arith, suc-mul n l)
+
+-- what is accounted for is not above T: a set flag stands for a period that is owed
+pub accounted : {l slack owed : ℕ} (t : Timer) → Owes l slack owed t → accountedFor t ≤ t .counter .cycles .0
+accounted {l} {slack} {owed} t k = by-flag (t .counter .flag) refl
+  where
+    by-flag : (flag : Bool) → t .counter .flag ≡ flag → accountedFor t ≤ t .counter .cycles .0
+    by-flag true e = rw e (omega (arith, k .valid .period, k .total, a-period owed l (k .flag e)))
+    by-flag false e = rw e (omega (arith, k .valid .period, k .total))
 
 -- a flag that is set in some cycles, or was before
 set-flag : (before now : Bool) (m x : ℕ) → (before ≡ true → 1 ≤ m) → now ≡ before || ltb 0 x → now ≡ true → 1 ≤ m + x

@@ -7,10 +7,10 @@ use mathlib.Core.List.{List, [], _∷_}
 use Rattle.counter.specs.declared.Ran.{Ran}
 use Rattle.clock.specs.declared.Sampled.{Sampled}
 use Rattle.clock.specs.declared.Announced as declared
-use Rattle.clock.specs.Run.{World, Event, run, sample, announce, start, step, after, afterRun, afterSample, afterAnnounce, Fair, FairEvent, FairIf}
-use Rattle.clock.specs.Holds.{GoodSetup, NeverAhead, AnnouncedIn, EveryRun}
-use Rattle.counter.proofs.Outcomes.{good-of-bounds}
-use Rattle.clock.proofs.Outcomes.{set-up, sampled}
+use Rattle.clock.proofs.Run.{World, Event, run, sample, announce, start, step, after, afterRun, afterSample, afterAnnounce, Fair, FairEvent, FairIf}
+use Rattle.clock.specs.Timer.{GoodSetup}
+use Rattle.clock.proofs.Holds.{NeverAhead, AnnouncedIn, EveryRun}
+use Rattle.clock.proofs.Outcomes.{SetupFacts, setup-facts, set-up, sampled}
 use Rattle.clock.proofs.Steps.{ran-by, sampled-by, announced-by}
 use Rattle.clock.proofs.Accounts as accounts
 use Rattle.clock.proofs.Accounts.{Accounts}
@@ -77,14 +77,17 @@ announcing l tick w k =
     (accounts.tells l (w .seen) (w .timer) (k .accounts))
 
 module _ (period tick : ℕ) (good : GoodSetup period tick) (es : List Event) where
+  abbrev facts : SetupFacts period tick
+  facts = setup-facts period tick good
+
   kept : Kept period tick (after es (start period tick))
   kept =
       keeps period tick es (start period tick)
-      (record { accounts = accounts.at-setup period tick (good .least) (good .most) (good .ticks); same-tick = refl; last = refl; told = sym (zero-mul tick); never-ahead = record { below = omega arith; whole = zero-mod period } })
+      (record { accounts = accounts.at-setup period tick (facts .least) (facts .most) (facts .ticks); same-tick = refl; last = refl; told = sym (zero-mul tick); never-ahead = record { below = omega arith; whole = zero-mod period } })
 
   told : Fair es (start period tick) → FaithfulWorld period (after es (start period tick))
   unfolding FaithfulWorld
-  told fair = fair-keeps period es (start period tick) (faithful.at-setup period tick (good .least) (good .most), refl) fair
+  told fair = fair-keeps period es (start period tick) (faithful.at-setup period tick (facts .least) (facts .most), refl) fair
 
 -- the same count in periods of l, l not 0
 same-periods : (l m n : ℕ) → 2 ≤ l → m * l ≡ n * l → m ≡ n
@@ -97,7 +100,7 @@ every-run period tick good es =
     let w = after es (start period tick) in
     let k = kept period tick good es in
     record {
-      set-up = set-up period tick (good-of-bounds period (good .least) (good .most)) (λ none. let some = good .ticks in omega arith);
+      set-up = set-up period tick good;
       always = record {
         formed = accounts.formed period (w .seen) (w .timer) (k .accounts);
         fits = k .accounts .fits;
@@ -111,5 +114,5 @@ every-run period tick good es =
       announcements = announcing period tick w k;
       faithful = λ fair.
           let f = told period tick good es fair in
-          record { reads = f .1; sees = same-periods period _ _ (good .least) (sym (k .accounts .periods) ∙ f .0 .counted) };
+          record { reads = f .1; sees = same-periods period _ _ (facts period tick good es .least) (sym (k .accounts .periods) ∙ f .0 .counted) };
     }

@@ -1,12 +1,13 @@
 -- What the tests before a sample make sure of: nothing is refused after B, and the reading fits.
-use Prim.Native.Nat.{ℕ, _+_, _-_, _≤_}
+use Prim.Native.Nat.{ℕ, _+_, _-_, _*_, _≤_}
 use mathlib.Core.Path.{_≡_, refl, sym, _∙_}
 use mathlib.Core.Bool.{Bool, true, false, cond, false≢true}
 use native.Mathlib.Omega.{arith}
+use borrow.Author.Tests.{ltb-false}
 use native.Mathlib.Nat.{one-mul, zero-mul}
 use Rattle.error.proofs.Tests.{clash}
 use Rattle.error.specs.declared.Refusal.{Refusal}
-use Rattle.error.specs.Numbers.{max64}
+use Rattle.error.specs.Numbers.{max32, max64}
 use Rattle.systick.specs.Leaves.{elapsedDecide}
 use Rattle.systick.specs.declared.ElapsedDecideResult.{ElapsedDecideResult}
 use Rattle.systick.specs.declared.ElapsedDecide.{ElapsedDecide}
@@ -24,8 +25,8 @@ use Rattle.clock.specs.declared.Timer.{Timer}
 use Rattle.clock.specs.declared.Gaps.{Gaps}
 use Rattle.clock.specs.declared.SampleTaken.{SampleTaken}
 use Rattle.clock.specs.Timer.{accountedFor}
-use Rattle.clock.specs.Sample.{atB, atC, decision, readingOf, takenFrom, sampleValue, Ready}
-use Rattle.clock.proofs.Stretches.{Stretches, stretches}
+use Rattle.clock.specs.Sample.{wholeOf, decision, readingOf, takenFrom, sampleValue, Ready}
+use Rattle.clock.proofs.Stretches.{atB, atC, Stretches, stretches}
 use Rattle.clock.proofs.Owed.{Owes, short}
 
 -- an answer that is accepted is not refused, and holds what it was accepted with
@@ -42,7 +43,7 @@ pub decided-is : {answer : ElapsedDecide} {one other : ElapsedDecideResult} → 
 decided-is p q = cc
 
 -- a state that the tests let through owes a whole period while the flag is set, and otherwise anything
-owes : (t : Timer) → Valid (t .counter .period) (t .counter) → accountedFor t ≤ t .counter .cycles .0 → (flag : Bool) → t .counter .flag ≡ flag → (slack : ℕ) × (owed : ℕ) × Owes (t .counter .period) slack owed t
+pub owes : (t : Timer) → Valid (t .counter .period) (t .counter) → accountedFor t ≤ t .counter .cycles .0 → (flag : Bool) → t .counter .flag ≡ flag → (slack : ℕ) × (owed : ℕ) × Owes (t .counter .period) slack owed t
 owes t h behind true e =
     let k = rw e at behind in (
       t .counter .cycles .0 - (t .clock .count .0 + (t .clock .overflow + (t .counter .period - t .counter .value) + t .counter .period)),
@@ -71,7 +72,7 @@ module _ (t : Timer) (g : Gaps) (ready : Ready t g) where
   pub decides : elapsedDecide (a .value) (atC a g .value) (atB a g .flag) (a .period) (t .clock .overflow) ≡ D.Accepted (decision t g)
   decides =
       let s = parts in
-      let room = ready .room in
+      let room : t .clock .overflow + 2 * a .period - 1 ≤ max32 = ltb-false _ _ (ready .room) in
       decided _ _ _ _ _ (omega arith) (omega arith)
 
   -- count + elapsed fits, since it is not above T
@@ -80,7 +81,7 @@ module _ (t : Timer) (g : Gaps) (ready : Ready t g) where
       let o = owes t (ready .valid) (ready .behind) _ refl in
       let below = short (a .period) (o .0) (o .1) t g (o .2) _ refl in
       let s = parts in
-      let fits = ready .fits in
+      let fits : a .cycles .0 + wholeOf g ≤ max64 = ltb-false _ _ (ready .fits) in
       omega arith
 
   -- what the code's steps come to, one after the other, and that none of them is refused

@@ -1,16 +1,11 @@
 -- What an entry answers, by its tests: what holds of every refusal, and of the answer that the tests let through, holds of the outcome.
 use Prim.Native.Nat.{ℕ, _+_, _-_, _*_, _≤_}
 use mathlib.Core.Path.{_≡_}
-use mathlib.Core.Bool.{true, not}
-use mathlib.Core.List.{[], _∷_}
+use mathlib.Core.Bool.{true}
 use borrow.Author.Tests.{ltb-false, not-false}
 use Rattle.error.specs.declared.Refusal.{Refusal}
-use Rattle.error.specs.declared.Refusal.the-variants.{Invalid}
 use Rattle.error.specs.Numbers.{max32, max64}
 use Rattle.error.proofs.Ordered.{by-outcome}
-use Rattle.systick.specs.Leaves.{announceDecide, announceTests, announceValue}
-use Rattle.systick.specs.declared.AnnounceDecide.{AnnounceDecide}
-use Rattle.systick.specs.declared.AnnounceDecide.the-variants as D
 use Rattle.counter.specs.declared.Counter.{Counter}
 use Rattle.counter.specs.declared.Ran.{Ran}
 use Rattle.counter.specs.declared.Ran.the-variants as R
@@ -23,8 +18,8 @@ use Rattle.clock.specs.declared.Sampled.the-variants as S
 use Rattle.clock.specs.declared.Announced.{Announced}
 use Rattle.clock.specs.declared.Announced.the-variants as A
 use Rattle.clock.specs.Timer.{wellFormed}
-use Rattle.clock.specs.Sample.{sampleOf, sampleTests, sampleValue}
-use Rattle.clock.specs.Announce.{announceOf, announcedBy, announcementFrom, decided}
+use Rattle.clock.specs.Sample.{wholeOf, sampleOf, sampleTests, sampleValue}
+use Rattle.clock.specs.Announce.{announceOf, announcement, announcementTests}
 
 pub ran-by : (c : Counter) (n : ℕ) (P : Ran → Type 0) → ((why : Refusal) → P (R.Refused why)) → (inRange c ≡ true → c .cycles .0 + n ≤ max64 → P (R.Accepted (runN n c))) → P (ranOf c n)
 unfolding ranOf
@@ -36,7 +31,7 @@ ran-by c n P refused f =
 pub record SampleLet (t : Timer) (g : Gaps) : Type 0 where
   pub formed : wellFormed t ≡ true
   pub room : t .clock .overflow + 2 * t .counter .period - 1 ≤ max32
-  pub fits : t .counter .cycles .0 + (g .p + g .q + g .r) ≤ max64
+  pub fits : t .counter .cycles .0 + wholeOf g ≤ max64
 
 pub sampled-by : (t : Timer) (g : Gaps) (P : Sampled → Type 0) → ((why : Refusal) → P (S.Refused why)) → (SampleLet t g → P (S.Accepted (sampleValue t g))) → P (sampleOf t g)
 unfolding sampleOf
@@ -49,16 +44,8 @@ pub record AnnounceLet (t : Timer) : Type 0 where
   pub formed : wellFormed t ≡ true
   pub order : t .clock .announced .0 ≤ t .clock .count .0 + t .clock .overflow
 
-abbrev pub announced : Timer → Announced
-announced t = A.Accepted (announcementFrom t (announceValue (t .clock .count) (t .clock .announced) (t .clock .overflow) (t .clock .tick)))
-
-pub announced-by : (t : Timer) (P : Announced → Type 0) → ((why : Refusal) → P (A.Refused why)) → (AnnounceLet t → P (announced t)) → P (announceOf t)
-unfolding announceOf announcedBy announceDecide
+pub announced-by : (t : Timer) (P : Announced → Type 0) → ((why : Refusal) → P (A.Refused why)) → (AnnounceLet t → P (A.Accepted (announcement t))) → P (announceOf t)
+unfolding announceOf
 announced-by t P refused f =
-    by-outcome A.Refused (announcedBy t (decided t)) P ((not (wellFormed t), Invalid) ∷ []) refused
-    (λ formed.
-    by-outcome D.Refused (D.Accepted (announceValue (t .clock .count) (t .clock .announced) (t .clock .overflow) (t .clock .tick)))
-    (λ (x : AnnounceDecide). P (announcedBy t x))
-    (announceTests (t .clock .count) (t .clock .announced) (t .clock .overflow) (t .clock .tick))
-    refused
-    (λ none. f (record { formed = not-false _ (formed .0); order = ltb-false _ _ (none .1 .1 .0) })))
+    by-outcome A.Refused (A.Accepted (announcement t)) P (announcementTests t) refused
+    (λ none. f (record { formed = not-false _ (none .0); order = ltb-false _ _ (none .1 .1 .1 .0) }))

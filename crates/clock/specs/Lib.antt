@@ -2,6 +2,3 @@ pub mod Timer
 pub mod Sample
 pub mod Announce
 pub mod Says
-pub mod Run
-pub mod Holds
-pub mod Shown

@@ -4,8 +4,8 @@ ghost use mathlib.Core.Bool.{cond};
 ghost use Prim.Native.Nat.{_+_, _≤_};
 ghost use lib.Dec.{leb};
 ghost use Rattle.counter.specs.Cycle.{cleared};
-ghost use Rattle.clock.specs.Timer.{setUp, accountedFor, wellFormed};
-ghost use Rattle.clock.specs.Sample.{sampleOf, sampleValue, takenFrom, Ready};
+ghost use Rattle.clock.specs.Timer.{badSetup, setUp, accountedFor, wellFormed};
+ghost use Rattle.clock.specs.Sample.{wholeOf, crowded, sampleOf, sampleValue, takenFrom, Ready};
 ghost use Rattle.clock.specs.Announce.{announceOf, announcementFrom};
 ghost use Rattle.clock.specs.Says.{setUpSays, setUpWhy, sampledSays, sampledWhy, announcedSays, announcedWhy};
 use counter::Counter;
@@ -44,6 +44,15 @@ pub struct Gaps {
     pub r: u32,
 }
 
+impl Gaps {
+    // All its cycles as one number.
+    pub fn whole(self) -> u64
+        ensures { λ r. ⌜ r ≡ wholeOf self ⌝ }
+    {
+        counter::sample_cycles(self.p, self.q, self.r)
+    }
+}
+
 pub enum SetUp {
     Accepted(Timer),
     Refused(Refusal),
@@ -71,16 +80,23 @@ pub enum Announced {
     Refused(Refusal),
 }
 
+// Whether a setup has a period out of range or no tick.
+pub fn bad_setup(period: u32, tick: u32) -> bool
+    ensures { λ r. ⌜ r ≡ badSetup period tick ⌝ }
+{
+    !(counter::good_period(period) & (tick != 0))
+}
+
 pub fn set_up(period: u32, tick: u32) -> SetUp
     ensures { λ r. ⌜ r ≡ setUp period tick ⌝ }
 {
+    if bad_setup(period, tick) {
+        return SetUp::Refused(Refusal::Invalid);
+    }
     let started = counter::started(period);
     let Ran::Accepted(counter) = started else {
         return SetUp::Refused(started.refusal());
     };
-    if tick == 0 {
-        return SetUp::Refused(Refusal::Invalid);
-    }
     let clock = Clock {
         tick: tick,
         count: Cycles(0),
@@ -137,6 +153,15 @@ pub fn well_formed(timer: Timer) -> bool
     false
 }
 
+// Whether overflow + 2L - 1 passes 2^32 - 1; one is added on both sides, since a state handed in may have no L.
+pub fn crowded(timer: Timer) -> bool
+    ensures { λ r. ⌜ r ≡ crowded timer ⌝ }
+{
+    let twice = 2 * (timer.counter.period as u64);
+    let most = timer.clock.overflow as u64 + twice;
+    4294967296 < most
+}
+
 // D: on a wrap the flag is read again only to clear it, so that the next sample does not see it.
 fn settled(wrap: bool, counter: Counter) -> Counter
     ensures { λ r. ⌜ r ≡ cond wrap (cleared counter) counter ⌝ }
@@ -187,15 +212,10 @@ pub fn sample(timer: Timer, gaps: Gaps) -> Sampled
 {
     if well_formed(timer) {
         let counter = timer.counter;
-        let clock = timer.clock;
-        let twice = 2 * (counter.period as u64);
-        let most = clock.overflow as u64 + twice - 1;
-        if 4294967295 < most {
+        if crowded(timer) {
             return Sampled::Refused(Refusal::Again);
         }
-        let cycles = gaps.p as u64 + gaps.q as u64 + gaps.r as u64;
-        let room = u64::MAX - cycles;
-        if room < counter.cycles.0 {
+        if counter.cycles_above(gaps.whole()) {
             return Sampled::Refused(Refusal::Overflow);
         }
         return taken(timer, gaps);

@@ -3,7 +3,7 @@ ghost use mathlib.Core.Path.{_≡_};
 ghost use Prim.Native.Nat.{_+_, _≤_};
 ghost use Rattle.error.specs.Numbers.{max64};
 ghost use Rattle.counter.specs.Cycle.{runN, cleared};
-ghost use Rattle.counter.specs.Entries.{goodPeriod, inRange, startedOf, ranOf, readingsOf, valueOf};
+ghost use Rattle.counter.specs.Entries.{goodPeriod, inRange, cyclesAbove, startedOf, ranOf, sampleCycles, readingsOf, valueOf};
 ghost use Rattle.counter.specs.Says.{ranSays, ranWhy, sampleReadWhy, valueSays};
 ghost use Rattle.counter.specs.Valid.{Valid};
 use error::Refusal;
@@ -58,6 +58,14 @@ impl Counter {
         good_period(self.period) & (1 <= self.value) & (self.value <= self.period)
     }
 
+    // Whether so many cycles more take T past 2^64 - 1, without a sum that might not fit.
+    pub fn cycles_above(self, cycles: u64) -> bool
+        ensures { λ r. ⌜ r ≡ cyclesAbove self cycles ⌝ }
+    {
+        let room = u64::MAX - cycles;
+        room < self.cycles.0
+    }
+
     // The counter after its flag was read.
     pub fn cleared(mut self) -> Counter
         ensures { λ r. ⌜ r ≡ cleared self ⌝ }
@@ -98,8 +106,7 @@ pub fn run(counter: Counter, n: u32) -> Ran
     ensures { λ r. ⌜ r ≡ ranOf counter n ⌝ }
 {
     if counter.in_range() {
-        let room = u64::MAX - n as u64;
-        if room < counter.cycles.0 {
+        if counter.cycles_above(n as u64) {
             return Ran::Refused(Refusal::Overflow);
         }
         return Ran::Accepted(advanced(counter, n));
@@ -154,15 +161,20 @@ pub enum SampleRead {
     Refused(Refusal),
 }
 
+// All the cycles of a sample as one number: three of 32 bits can't pass 64.
+pub fn sample_cycles(p: u32, q: u32, r: u32) -> u64
+    ensures { λ sum. ⌜ sum ≡ sampleCycles p q r ⌝ }
+{
+    p as u64 + q as u64 + r as u64
+}
+
 // A sample's readings: p cycles to B, whose reading clears the flag, q to C, and r more. All are tested first, so that
 // nothing is refused once the flag is gone.
 pub fn readings(counter: Counter, p: u32, q: u32, r: u32) -> SampleRead
     ensures { λ answer. ⌜ answer ≡ readingsOf counter p q r ⌝ }
 {
     if counter.in_range() {
-        let cycles = p as u64 + q as u64 + r as u64;
-        let latest = u64::MAX - cycles;
-        if latest < counter.cycles.0 {
+        if counter.cycles_above(sample_cycles(p, q, r)) {
             return SampleRead::Refused(Refusal::Overflow);
         }
         let b = advanced(counter, p);

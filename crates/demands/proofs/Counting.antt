@@ -11,10 +11,11 @@ use Rattle.counter.proofs.Running.{Alike, clearing, alike-run, alike-wraps, run
 use Rattle.clock.specs.declared.Gaps.{Gaps}
 use Rattle.clock.specs.declared.Sampled.the-variants as S
 use Rattle.clock.specs.declared.Announced.{Announced}
-use Rattle.clock.specs.Sample.{atB, atC, decision, sampleValue, sampleOf}
-use Rattle.clock.specs.Run as clock
+use Rattle.clock.specs.Sample.{wholeOf, decision, sampleValue, sampleOf}
+use Rattle.clock.proofs.Stretches.{atB, atC}
+use Rattle.clock.proofs.Run as clock
 use Rattle.clock.proofs.Steps.{announced-by}
-use Rattle.demands.specs.Trace.{wholeOf, timeC, wrapsBy, FairSample}
+use Rattle.demands.specs.Trace.{timeC, wrapsBy, FairSample}
 
 pub record Tracks (period ran atC : ℕ) (x : clock.World) : Type 0 where
   pub alike : Alike (x .timer .counter) (runN ran (fresh period))

@@ -3,9 +3,10 @@ use mathlib.Core.Path.{refl}
 use Rattle.usage.specs.Leaves.{averageCycles}
 use Rattle.books.specs.Stamp.{stampOf}
 use Rattle.books.proofs.Refusing as books
+use Rattle.ledger.proofs.Adding.{stamps-near}
 use Rattle.ledger.proofs.Operated.{every-operation}
 use Rattle.ledger.proofs.Refusing as ledger
-use Rattle.steps.proofs.Answering.{every-answer}
+use Rattle.machine.proofs.Stepping.{every-answer, exactly}
 use Rattle.machine.specs.Step.{stepOf}
 use Rattle.demands.specs.Demand2.{Demand2}
 use Rattle.demands.proofs.Leaves.{elapsed-cycles-exact, cycles-to-ticks-exact, ticks-to-cycles-exact, max-ticks-exact, elapsed-decide-exact, announce-decide-exact, enable-exact, disable-exact, accumulate-exact, round-trip}
@@ -13,7 +14,6 @@ use Rattle.demands.proofs.Refusals.{entry-refusals}
 use Rattle.demands.proofs.UpstreamTimer.{timer-clauses, timer-lemmas}
 use Rattle.demands.proofs.UpstreamThread.{thread-clauses, thread-lemmas}
 use Rattle.demands.proofs.Numbers.{numbers}
-use Rattle.demands.proofs.Demand1.{exactly}
 
 pub demand2 : Demand2 stepOf
 unfolding averageCycles stampOf
@@ -34,6 +34,7 @@ demand2 = record {
   average = λ total windows. refl;
   stamp = λ reading. refl;
   stamps-apart = λ now then. refl;
+  stamps-near = stamps-near;
   entry-refusals = entry-refusals;
   operations = every-operation;
   operation-refusals = ledger.every-refusal;

@@ -1,13 +1,12 @@
--- What one record does to the machine, told as the clock's and the ledger's own onlookers see it.
+-- What one task does to the machine, told as the clock's and the ledger's own onlookers see it.
 use Prim.Native.Nat.{ℕ, _+_, _*_, _≤_, _<_}
 use mathlib.Core.Path.{_≡_, refl, sym, ap, _∙_, subst}
-use mathlib.Core.Bool.{Bool, true, false}
+use mathlib.Core.Bool.{Bool, true, false, cond}
 use mathlib.Core.List.{List, [], _∷_, _++_}
 use mathlib.Core.Logic.{inl, inr}
 use native.Mathlib.Omega.{arith}
 use native.Mathlib.Nat.{add-zero, zero-mul}
 use lib.ListN.{length}
-use Rattle.error.proofs.Ordered.{by-outcome}
 use Rattle.error.proofs.Tests.{clash}
 use Rattle.error.specs.declared.Refusal.{Refusal}
 use Rattle.units.specs.declared.Cycles.{Cycles}
@@ -19,18 +18,17 @@ use Rattle.clock.specs.declared.Timer.{Timer}
 use Rattle.clock.specs.declared.Sampled.the-variants as S
 use Rattle.clock.specs.declared.Announcement.{Announcement}
 use Rattle.clock.specs.declared.Announced.the-variants as N
-use Rattle.clock.specs.Sample.{atC, sampleValue, sampleOf}
+use Rattle.clock.specs.Sample.{wholeOf, sampleValue, sampleOf}
 use Rattle.clock.specs.Announce.{announceOf}
-use Rattle.clock.specs.Run as clock
+use Rattle.clock.proofs.Run as clock
 use Rattle.books.specs.declared.Operation.{Operation}
-use Rattle.books.specs.declared.Operation.the-variants as O
 use Rattle.ledger.specs.declared.Ledger.{Ledger}
 use Rattle.ledger.specs.declared.Answer.{Answer}
 use Rattle.ledger.specs.declared.Answer.the-variants as A
 use Rattle.ledger.specs.Laws.{AnswerIs}
 use Rattle.ledger.specs.Operate.{operateOf}
-use Rattle.ledger.specs.Holds.{Timely}
-use Rattle.ledger.specs.Run as ledger
+use Rattle.ledger.proofs.Holds.{Timely}
+use Rattle.ledger.proofs.Run as ledger
 use Rattle.ledger.proofs.Operated.{every-operation}
 use Rattle.trace.specs.declared.Record.{Record}
 use Rattle.trace.specs.declared.Record.the-variants as K
@@ -41,31 +39,61 @@ use Rattle.table.specs.declared.Reason.{Reason}
 use Rattle.table.specs.declared.Reason.the-variants as Why
 use Rattle.table.specs.declared.Outcome.{Outcome}
 use Rattle.table.specs.declared.Outcome.the-variants as Told
+use Rattle.table.specs.declared.tasks.Task.{Task}
+use Rattle.table.specs.declared.tasks.Task.the-variants as T
+use Rattle.table.specs.declared.tasks.Then.the-variants as W
 use Rattle.table.specs.Task.{taskOf}
-use Rattle.machine.specs.Accepts.{Samples}
 use Rattle.table.specs.Table.{malformed}
-use Rattle.steps.specs.Laws.{Operates, operationTells, recordRows}
-use Rattle.steps.specs.Answers.{answerTo, leftBy}
-use Rattle.machine.specs.Step.{coreOf, stepOf}
-use Rattle.steps.proofs.Keeping.{every-refusal, operated-timer, stays-ready}
-use Rattle.steps.proofs.Answering.{every-answer}
-use Rattle.steps.proofs.Stepping as stepping
-use Rattle.steps.proofs.Stepping.{Touches}
-use Rattle.demands.specs.Trace.{Does, nothing, runs, tell, samples, operates, doesOf, sampleOnly, afterTouch, Watched, wholeOf, timeC, seen, Fair}
+use Rattle.machine.specs.declared.Stepped.{Stepped}
+use Rattle.machine.proofs.Making.{operationTells}
+use Rattle.machine.specs.Step.{coreOf, announceRows, lastRows, recordRows, afterTouch, doneBy, stepOf}
+use Rattle.machine.proofs.Accepting.{announcement-is, Samples}
+use Rattle.machine.proofs.Stepping as stepping
+use Rattle.machine.proofs.Stepping.{taskStep, Touches, every-refusal}
+use Rattle.demands.specs.Trace.{Does, nothing, runs, tell, samples, operates, doesOf, sampleOnly, happened, Watched, timeC, seen}
 use Rattle.demands.proofs.Counting.{Tracks, tracks-run, tracks-announce, tracks-sample}
 
--- what a record lets happen to the clock's own onlooker
-unfoldable pub timeOf : Record → List clock.Event
-timeOf (K.Run p) = clock.run p ∷ []
-timeOf (K.Sample g) = clock.sample g ∷ []
-timeOf K.Announce = clock.announce ∷ []
-timeOf (K.Start i g) = clock.sample g ∷ []
-timeOf (K.Switch i g) = clock.sample g ∷ []
-timeOf (K.Stop g) = clock.sample g ∷ []
-timeOf (K.Enable i g) = clock.sample g ∷ []
-timeOf (K.Disable i g) = clock.sample g ∷ []
-timeOf (K.Report i) = []
-timeOf (K.Setup s) = []
+-- what a task lets happen: the onlooker reads it off the record, and it comes to the same
+abbrev pub taskDoes : Task → ℕ → Does
+taskDoes (T.Run p) x = runs p
+taskDoes (T.Sample g W.Tell) x = samples g
+taskDoes (T.Sample g (W.Operate op)) x = operates op g x
+taskDoes T.Announce x = tell x
+taskDoes (T.Report i) x = nothing
+taskDoes (T.Setup s) x = nothing
+
+does-is : (r : Record) (x : ℕ) → doesOf r x ≡ taskDoes (taskOf r) x
+unfolding taskOf
+does-is (K.Run p) x = refl
+does-is (K.Sample g) x = refl
+does-is K.Announce x = refl
+does-is (K.Start i g) x = refl
+does-is (K.Switch i g) x = refl
+does-is (K.Stop g) x = refl
+does-is (K.Enable i g) x = refl
+does-is (K.Disable i g) x = refl
+does-is (K.Report i) x = refl
+does-is (K.Setup s) x = refl
+
+unfoldable pub happenedBy : Task → Outcome → Does
+happenedBy task (Told.Accepted values) = taskDoes task (values .x)
+happenedBy task (Told.Refused why) = cond (afterTouch why) (sampleOnly (taskDoes task 0)) nothing
+
+same-happened : (r : Record) (o : Outcome) → happened (D.Accepted r) o ≡ happenedBy (taskOf r) o
+unfolding happened happenedBy
+same-happened r (Told.Accepted values) = does-is r (values .x)
+same-happened r (Told.Refused why) = ap (λ (d : Does). cond (afterTouch why) (sampleOnly d) nothing) (does-is r 0)
+
+pub happened-is : (m : Machine) (r : Record) → happened (D.Accepted r) (stepOf m (D.Accepted r) .outcome) ≡ happenedBy (taskOf r) (taskStep m (taskOf r) .outcome)
+happened-is m r = ap (λ (s : Stepped). happened (D.Accepted r) (s .outcome)) (stepping.of-task m r) ∙ same-happened r (taskStep m (taskOf r) .outcome)
+
+-- to the clock's own onlooker
+unfoldable pub timeOf : Task → List clock.Event
+timeOf (T.Run p) = clock.run p ∷ []
+timeOf (T.Sample g then) = clock.sample g ∷ []
+timeOf T.Announce = clock.announce ∷ []
+timeOf (T.Report i) = []
+timeOf (T.Setup s) = []
 
 -- events after events
 pub on-and-on : (es more : List clock.Event) (w : clock.World) → clock.after (es ++ more) w ≡ clock.after more (clock.after es w)
@@ -92,47 +120,45 @@ pub one-later : (from : ℕ) (es : List ledger.Event) (e : ledger.Event) (to : �
 one-later from [] e to t h = (t, h)
 one-later from (f ∷ es) e to t h = (t .0, one-later (f .time) es e to (t .1) h)
 
--- how a record ends: accepted, a sum or window refused after the touch, or refused before it
-pub data Ending (m : Machine) (r : Record) : Type 0 where
-  taken : (values : Values) → stepOf m (D.Accepted r) .outcome ≡ Told.Accepted values → Touches m r → Ending m r
-  summed : stepOf m (D.Accepted r) .outcome ≡ Told.Refused Why.WontFit → Touches m r → Ending m r
-  left : (why : Reason) → stepOf m (D.Accepted r) .outcome ≡ Told.Refused why → afterTouch why ≡ false → stepOf m (D.Accepted r) .machine ≡ m → Ending m r
+-- how a task ends: accepted, a sum or window refused after the touch, or refused before it
+pub data Ending (m : Machine) (task : Task) : Type 0 where
+  taken : (values : Values) → taskStep m task .outcome ≡ Told.Accepted values → Touches m task → Ending m task
+  summed : (g : Gaps) (op : Operation) → task ≡ T.Sample g (W.Operate op) → taskStep m (T.Sample g (W.Operate op)) .outcome ≡ Told.Refused Why.WontFit → Touches m (T.Sample g (W.Operate op)) → Ending m task
+  left : (why : Reason) → taskStep m task .outcome ≡ Told.Refused why → afterTouch why ≡ false → taskStep m task .machine ≡ m → Ending m task
 
-pub ending : (m : Machine) (r : Record) → Ending m r
-unfolding afterTouch
-ending m r = by-outcome (stepOf m (D.Accepted r) .outcome) refl
+pub ending : (m : Machine) (task : Task) → Ending m task
+ending m task = by-outcome (taskStep m task .outcome) refl
   where
-    stays : (why : Reason) → stepOf m (D.Accepted r) .outcome ≡ Told.Refused why → afterTouch why ≡ false → (why ≡ Why.WontFit → ⊥) → Ending m r
-    stays why e before other = left why e before (every-refusal m (D.Accepted r) .1 .untouched why e other)
+    after-sum : taskStep m task .outcome ≡ Told.Refused Why.WontFit → Ending m task
+    after-sum e =
+        let p = stepping.touches-sum m task e in
+        let found = stepping.sum-of m task (p .1) in
+        summed (found .0) (found .1) (found .2) (rw (found .2) at e) (rw (found .2) at (p .0))
 
-    by-reason : (why : Reason) → stepOf m (D.Accepted r) .outcome ≡ Told.Refused why → Ending m r
-    by-reason Why.Malformed e = stays _ e refl (λ q. clash (cc))
-    by-reason Why.BadRecord e = stays _ e refl (λ q. clash (cc))
-    by-reason Why.NotSetUp e = stays _ e refl (λ q. clash (cc))
-    by-reason Why.SecondSetup e = stays _ e refl (λ q. clash (cc))
-    by-reason Why.NoThread e = stays _ e refl (λ q. clash (cc))
-    by-reason Why.Running e = stays _ e refl (λ q. clash (cc))
-    by-reason Why.AnnounceFirst e = stays _ e refl (λ q. clash (cc))
-    by-reason Why.CyclesAbove e = stays _ e refl (λ q. clash (cc))
-    by-reason (Why.NotAnnounced leafs) e = stays _ e refl (λ q. clash (cc))
-    by-reason Why.WontFit e = summed e (stepping.touches-sum m r e)
+    by-touch : (why : Reason) → taskStep m task .outcome ≡ Told.Refused why → (t : Bool) → afterTouch why ≡ t → Ending m task
+    by-touch why e true t = after-sum (e ∙ ap Told.Refused (stepping.touched-why why t))
+    by-touch why e false t = left why e t (ap (λ (s : Stepped). s .machine) (stepping.task-refused m task why e) ∙ rw t refl)
 
-    by-outcome : (o : Outcome) → stepOf m (D.Accepted r) .outcome ≡ o → Ending m r
-    by-outcome (Told.Accepted values) e = taken values e (stepping.touches-accepted m r values e)
-    by-outcome (Told.Refused why) e = by-reason why e
+    by-outcome : (o : Outcome) → taskStep m task .outcome ≡ o → Ending m task
+    by-outcome (Told.Accepted values) e = taken values e (stepping.touches-accepted m task values e)
+    by-outcome (Told.Refused why) e = by-touch why e (afterTouch why) refl
 
--- what a touched record does: the counter and clock as the clock's onlooker's, the ledger by so many entries
-pub record Moved (m : Machine) (x : clock.World) (r : Record) : Type 0 where
-  pub ready : stepOf m (D.Accepted r) .machine .ready ≡ m .ready
-  pub timer : stepOf m (D.Accepted r) .machine .timer ≡ clock.after (timeOf r) x .timer
+-- what a touched task does: the counter and clock as the clock's onlooker's, the ledger by so many entries
+pub record Moved (m : Machine) (x : clock.World) (task : Task) : Type 0 where
+  pub ready : taskStep m task .machine .ready ≡ m .ready
+  pub timer : taskStep m task .machine .timer ≡ clock.after (timeOf task) x .timer
   pub entries : List ledger.Event
-  pub entered : (lw : ledger.World) → lw .ledger ≡ m .ledger → stepOf m (D.Accepted r) .machine .ledger ≡ ledger.after entries lw .ledger
+  pub entered : (lw : ledger.World) → lw .ledger ≡ m .ledger → taskStep m task .machine .ledger ≡ ledger.after entries lw .ledger
+
+-- the entry of an operation, at its sample's reading
+abbrev pub entryAt : Machine → Gaps → Operation → ledger.Event
+entryAt m g op = record { operation = op; time = sampleValue (m .timer) g .reading .0 }
 
 module _ (m : Machine) (x : clock.World) (together : m .timer ≡ x .timer) where
   -- nothing entered
-  unfoldable pub idle : (r : Record) (timer : Timer) → stepOf m (D.Accepted r) .machine ≡ record { ready = m .ready; timer = timer; ledger = m .ledger } → timer ≡ clock.after (timeOf r) x .timer → Moved m x r
+  unfoldable pub idle : (task : Task) (timer : Timer) → taskStep m task .machine ≡ record { ready = m .ready; timer = timer; ledger = m .ledger } → timer ≡ clock.after (timeOf task) x .timer → Moved m x task
   unfolding ledger.after
-  idle r timer e q = record {
+  idle task timer e q = record {
     ready = ap (λ (n : Machine). n .ready) e;
     timer = ap (λ (n : Machine). n .timer) e ∙ q;
     entries = [];
@@ -144,14 +170,16 @@ module _ (m : Machine) (x : clock.World) (together : m .timer ≡ x .timer) wher
   unfolding clock.after clock.step
   sample-time g accepted = sym (rw (sym together, accepted) refl)
 
-  unfoldable pub operation : (r : Record) (g : Gaps) (o : Operates r g) → timeOf r ≡ clock.sample g ∷ [] → m .ready ≡ true → Touches m r → Moved m x r
-  unfolding ledger.after ledger.step
-  operation r g o et ready t = record {
-    ready = stays-ready m r (o .0) g (o .1) (t .whole) (t .none);
-    timer = operated-timer m r (o .0) g (o .1) (t .whole) (t .none) ∙ (sample-time g (stepping.operation-accepted m r g o t) ∙ ap (λ (es : List clock.Event). clock.after es x .timer) (sym et));
-    entries = record { operation = o .0; time = sampleValue (m .timer) g .reading .0 } ∷ [];
-    entered = λ lw same. stepping.operated m r g o ready t ∙ sym (entry-ledger lw same (sampleValue (m .timer) g .reading) (o .0));
-  }
+  unfoldable pub operation : (g : Gaps) (op : Operation) → Touches m (T.Sample g (W.Operate op)) → Moved m x (T.Sample g (W.Operate op))
+  unfolding ledger.after ledger.step timeOf
+  operation g op t =
+      let is = stepping.operated m g op t in
+      record {
+        ready = ap (λ (s : Stepped). s .machine .ready) is;
+        timer = ap (λ (s : Stepped). s .machine .timer) is ∙ sample-time g (stepping.sample-accepted m g (W.Operate op) t);
+        entries = entryAt m g op ∷ [];
+        entered = λ lw same. ap (λ (s : Stepped). s .machine .ledger) is ∙ sym (entry-ledger lw same (sampleValue (m .timer) g .reading) op);
+      }
     where
       answered : (lw : ledger.World) (e : ledger.Event) (l : Ledger) (a : Answer) → ledger.afterAnswer lw e l a .ledger ≡ l
       answered lw e l (A.Accepted cycles) = refl
@@ -160,39 +188,35 @@ module _ (m : Machine) (x : clock.World) (together : m .timer ≡ x .timer) wher
       entry-ledger : (lw : ledger.World) → lw .ledger ≡ m .ledger → (reading : Cycles) (op : Operation) → ledger.step (record { operation = op; time = reading .0 }) lw .ledger ≡ operateOf (m .ledger) reading op .ledger
       entry-ledger lw same reading op = answered lw (record { operation = op; time = reading .0 }) (operateOf (lw .ledger) reading op .ledger) (operateOf (lw .ledger) reading op .answer) ∙ ap (λ (l : Ledger). operateOf l reading op .ledger) same
 
-  unfoldable pub moved : (r : Record) → m .ready ≡ true → ((a : Announcement) × (announceOf (m .timer) ≡ N.Accepted a)) → Touches m r → Moved m x r
-  unfolding taskOf clock.after clock.step timeOf
-  moved (K.Run p) ready a t = idle (K.Run p) _ (stepping.ran m p t) (sym (rw (sym together, stepping.runs-accepted m p t) refl))
-  moved (K.Sample g) ready a t = idle (K.Sample g) _ (stepping.sampled m g t) (sample-time g (stepping.sample-accepted m g t))
-  moved K.Announce ready a t = idle K.Announce _ (stepping.announced m (a .0) (a .1) t) (sym (rw (sym together, a .1) refl))
-  moved (K.Start i g) ready a t = operation (K.Start i g) g (O.Start i, refl) refl ready t
-  moved (K.Switch i g) ready a t = operation (K.Switch i g) g (O.Switch i, refl) refl ready t
-  moved (K.Stop g) ready a t = operation (K.Stop g) g (O.Stop, refl) refl ready t
-  moved (K.Enable i g) ready a t = operation (K.Enable i g) g (O.Enable i, refl) refl ready t
-  moved (K.Disable i g) ready a t = operation (K.Disable i g) g (O.Disable i, refl) refl ready t
-  moved (K.Report i) ready a t = idle (K.Report i) (m .timer) (stepping.reported m i t) together
-  moved (K.Setup s) ready a t = absurd (stepping.no-setup m s ready t)
+  -- where nothing is left to refuse it, a task leaves what it does
+  pub leaves : (task : Task) → lastRows m task ≡ [] → Touches m task → taskStep m task .machine ≡ doneBy m task .machine
+  leaves task none t = ap (λ (s : Stepped). s .machine) (stepping.done m task none t)
 
-  -- the cycles that a touched record runs, by 01's counter
+  unfoldable pub moved : (task : Task) → m .ready ≡ true → ((a : Announcement) × (announceOf (m .timer) ≡ N.Accepted a)) → Touches m task → Moved m x task
+  unfolding lastRows announceRows doneBy clock.after clock.step timeOf
+  moved (T.Run p) ready a t = idle (T.Run p) _ (leaves (T.Run p) refl t) (sym (rw (sym together, stepping.runs-accepted m p t) refl))
+  moved (T.Sample g W.Tell) ready a t = idle (T.Sample g W.Tell) _ (leaves (T.Sample g W.Tell) refl t) (sample-time g (stepping.sample-accepted m g W.Tell t))
+  moved (T.Sample g (W.Operate op)) ready a t = operation g op t
+  moved T.Announce ready a t = idle T.Announce _ (leaves T.Announce (rw (a .1) refl) t) (ap (λ (x : Announcement). x .timer) (sym (announcement-is (m .timer) (a .0) (a .1))) ∙ sym (rw (sym together, a .1) refl))
+  moved (T.Report i) ready a t = idle (T.Report i) (m .timer) (leaves (T.Report i) refl t) together
+  moved (T.Setup s) ready a t = absurd (stepping.no-setup m s ready t)
+
+  -- the cycles that a touched task runs, by 01's counter
   module _ (period : ℕ) (w : Watched) (k : Tracks period (w .ran) (w .atC) x) (after : Machine) (n : ℕ) where
-    unfoldable pub Follows : Record → Type 0
-    Follows r = Tracks period (seen (doesOf r n) after w .ran) (seen (doesOf r n) after w .atC) (clock.after (timeOf r) x)
+    unfoldable pub Follows : Task → Type 0
+    Follows task = Tracks period (seen (taskDoes task n) after w .ran) (seen (taskDoes task n) after w .atC) (clock.after (timeOf task) x)
 
     sample-follows : (g : Gaps) → Samples (coreOf m) g → Tracks period (w .ran + wholeOf g) (timeC (w .ran) g) (clock.step (clock.sample g) x)
     sample-follows g accepted = tracks-sample period (w .ran) (w .atC) x k g (subst (λ (t : Timer). sampleOf t g ≡ S.Accepted (sampleValue t g)) together accepted)
 
-    pub follows : (r : Record) → m .ready ≡ true → Touches m r → Follows r
-    unfolding Follows seen timeOf clock.after taskOf
-    follows (K.Run p) ready t = tracks-run period (w .ran) (w .atC) x k p (subst (λ (t : Timer). ranOf (t .counter) p ≡ R.Accepted (runN p (t .counter))) together (stepping.runs-accepted m p t))
-    follows (K.Sample g) ready t = sample-follows g (stepping.sample-accepted m g t)
-    follows K.Announce ready t = tracks-announce period (w .ran) (w .atC) x k
-    follows (K.Start i g) ready t = sample-follows g (stepping.operation-accepted m (K.Start i g) g (O.Start i, refl) t)
-    follows (K.Switch i g) ready t = sample-follows g (stepping.operation-accepted m (K.Switch i g) g (O.Switch i, refl) t)
-    follows (K.Stop g) ready t = sample-follows g (stepping.operation-accepted m (K.Stop g) g (O.Stop, refl) t)
-    follows (K.Enable i g) ready t = sample-follows g (stepping.operation-accepted m (K.Enable i g) g (O.Enable i, refl) t)
-    follows (K.Disable i g) ready t = sample-follows g (stepping.operation-accepted m (K.Disable i g) g (O.Disable i, refl) t)
-    follows (K.Report i) ready t = k
-    follows (K.Setup s) ready t = absurd (stepping.no-setup m s ready t)
+    pub follows : (task : Task) → m .ready ≡ true → Touches m task → Follows task
+    unfolding Follows seen timeOf clock.after
+    follows (T.Run p) ready t = tracks-run period (w .ran) (w .atC) x k p (subst (λ (t : Timer). ranOf (t .counter) p ≡ R.Accepted (runN p (t .counter))) together (stepping.runs-accepted m p t))
+    follows (T.Sample g W.Tell) ready t = sample-follows g (stepping.sample-accepted m g W.Tell t)
+    follows (T.Sample g (W.Operate op)) ready t = sample-follows g (stepping.sample-accepted m g (W.Operate op) t)
+    follows T.Announce ready t = tracks-announce period (w .ran) (w .atC) x k
+    follows (T.Report i) ready t = k
+    follows (T.Setup s) ready t = absurd (stepping.no-setup m s ready t)
 
 -- the cycles answered, and what they add to the machine total
 unfoldable pub answeredOf : Does → ℕ
@@ -213,35 +237,25 @@ told-refused (A.Accepted cycles) other e = clash (cc)
 told-refused (A.Refused why) other e = (why, refl)
 
 module _ (m : Machine) (ready : m .ready ≡ true) (some : 0 < length (m .ledger .threads)) (values : Values) where
-  operation-adds : (r : Record) (g : Gaps) (o : Operates r g) → Touches m r → stepOf m (D.Accepted r) .outcome ≡ Told.Accepted values → stepOf m (D.Accepted r) .machine .ledger .books .total .0 ≡ m .ledger .books .total .0 + values .x
-  operation-adds r g o t e =
+  operation-adds : (g : Gaps) (op : Operation) → Touches m (T.Sample g (W.Operate op)) → taskStep m (T.Sample g (W.Operate op)) .outcome ≡ Told.Accepted values → taskStep m (T.Sample g (W.Operate op)) .machine .ledger .books .total .0 ≡ m .ledger .books .total .0 + values .x
+  operation-adds g op t e =
       let reading = sampleValue (m .timer) g .reading in
-      let answer = told-accepted (operateOf (m .ledger) reading (o .0) .answer) values (sym (stepping.answered m r g o ready t) ∙ e) in
-      let done = subst (AnswerIs (m .ledger) reading (o .0) (operateOf (m .ledger) reading (o .0) .ledger)) answer (every-operation (m .ledger) reading (o .0) some) in
-      ap (λ (l : Ledger). l .books .total .0) (stepping.operated m r g o ready t) ∙ done .entry .machine
+      let answer = told-accepted (operateOf (m .ledger) reading op .answer) values (sym (stepping.answered m g op t) ∙ e) in
+      let done = subst (AnswerIs (m .ledger) reading op (operateOf (m .ledger) reading op .ledger)) answer (every-operation (m .ledger) reading op some) in
+      ap (λ (s : Stepped). s .machine .ledger .books .total .0) (stepping.operated m g op t) ∙ done .entry .machine
 
-  same-total : (r : Record) → stepOf m (D.Accepted r) .machine .ledger ≡ m .ledger → stepOf m (D.Accepted r) .machine .ledger .books .total .0 ≡ m .ledger .books .total .0 + 0
-  same-total r e = ap (λ (l : Ledger). l .books .total .0) e ∙ sym (add-zero _)
+  -- a task that leaves the ledger alone
+  same-total : (task : Task) → doneBy m task .machine .ledger ≡ m .ledger → taskStep m task .outcome ≡ Told.Accepted values → taskStep m task .machine .ledger .books .total .0 ≡ m .ledger .books .total .0 + 0
+  same-total task stays e = ap (λ (n : Machine). n .ledger .books .total .0) (stepping.task-done m task values e .1) ∙ (ap (λ (l : Ledger). l .books .total .0) stays ∙ sym (add-zero _))
 
-  pub adds : (r : Record) → Touches m r → stepOf m (D.Accepted r) .outcome ≡ Told.Accepted values → stepOf m (D.Accepted r) .machine .ledger .books .total .0 ≡ m .ledger .books .total .0 + answeredOf (doesOf r (values .x))
-  unfolding answeredOf leftBy taskOf
-  adds (K.Run p) t e = same-total (K.Run p) (ap (λ (n : Machine). n .ledger) (every-answer m (K.Run p) values e .1))
-  adds (K.Sample g) t e = same-total (K.Sample g) (ap (λ (n : Machine). n .ledger) (every-answer m (K.Sample g) values e .1))
-  adds K.Announce t e = same-total K.Announce (ap (λ (n : Machine). n .ledger) (every-answer m K.Announce values e .1))
-  adds (K.Start i g) t e = operation-adds (K.Start i g) g (O.Start i, refl) t e
-  adds (K.Switch i g) t e = operation-adds (K.Switch i g) g (O.Switch i, refl) t e
-  adds (K.Stop g) t e = operation-adds (K.Stop g) g (O.Stop, refl) t e
-  adds (K.Enable i g) t e = operation-adds (K.Enable i g) g (O.Enable i, refl) t e
-  adds (K.Disable i g) t e = operation-adds (K.Disable i g) g (O.Disable i, refl) t e
-  adds (K.Report i) t e = same-total (K.Report i) (ap (λ (n : Machine). n .ledger) (every-answer m (K.Report i) values e .1))
-  adds (K.Setup s) t e = absurd (stepping.no-setup m s ready t)
-
--- a sum that was refused added nothing
-pub sum-kept : (m : Machine) (r : Record) → stepOf m (D.Accepted r) .outcome ≡ Told.Refused Why.WontFit → stepOf m (D.Accepted r) .machine .ledger ≡ m .ledger
-sum-kept m r e =
-    let kept = every-refusal m (D.Accepted r) .1 in
-    let op = kept .only-operations e in
-    ap (λ (n : Machine). n .ledger) (kept .sampled (op .0) (op .1) (op .2) (op .3) e .0)
+  pub adds : (task : Task) → Touches m task → taskStep m task .outcome ≡ Told.Accepted values → taskStep m task .machine .ledger .books .total .0 ≡ m .ledger .books .total .0 + answeredOf (taskDoes task (values .x))
+  unfolding answeredOf doneBy
+  adds (T.Run p) t e = same-total (T.Run p) refl e
+  adds (T.Sample g W.Tell) t e = same-total (T.Sample g W.Tell) refl e
+  adds (T.Sample g (W.Operate op)) t e = operation-adds g op t e
+  adds T.Announce t e = same-total T.Announce refl e
+  adds (T.Report i) t e = same-total (T.Report i) refl e
+  adds (T.Setup s) t e = absurd (stepping.no-setup m s ready t)
 
 -- the ticks answered, and what they add to announced
 unfoldable pub toldOf : Does → ℕ
@@ -255,48 +269,26 @@ none-told : (a tick : ℕ) → a ≡ a + 0 * tick
 none-told a tick = omega (arith, zero-mul tick)
 
 module _ (m : Machine) (values : Values) where
-  abbrev Announced : Record → Type 0
-  Announced r = stepOf m (D.Accepted r) .machine .timer .clock .announced .0 ≡ m .timer .clock .announced .0 + toldOf (doesOf r (values .x)) * m .timer .clock .tick
+  same-announced : (task : Task) → doneBy m task .machine .timer .clock .announced .0 ≡ m .timer .clock .announced .0 → taskStep m task .outcome ≡ Told.Accepted values → taskStep m task .machine .timer .clock .announced .0 ≡ m .timer .clock .announced .0 + 0 * m .timer .clock .tick
+  same-announced task stays e = ap (λ (n : Machine). n .timer .clock .announced .0) (stepping.task-done m task values e .1) ∙ (stays ∙ none-told _ (m .timer .clock .tick))
 
-  same-announced : (r : Record) → leftBy m r .timer .clock .announced .0 ≡ m .timer .clock .announced .0 → stepOf m (D.Accepted r) .outcome ≡ Told.Accepted values → stepOf m (D.Accepted r) .machine .timer .clock .announced .0 ≡ m .timer .clock .announced .0 + 0 * m .timer .clock .tick
-  same-announced r stays e = ap (λ (n : Machine). n .timer .clock .announced .0) (every-answer m r values e .1) ∙ (stays ∙ none-told _ (m .timer .clock .tick))
-
-  pub announced-after : m .ready ≡ true → (r : Record) → Touches m r → stepOf m (D.Accepted r) .outcome ≡ Told.Accepted values → Announced r
-  unfolding toldOf leftBy answerTo
-  announced-after ready (K.Run p) t e = same-announced (K.Run p) refl e
-  announced-after ready (K.Sample g) t e = same-announced (K.Sample g) refl e
-  announced-after ready K.Announce t e =
-      let law = every-answer m K.Announce values e in
+  pub announced-after : m .ready ≡ true → (task : Task) → Touches m task → taskStep m task .outcome ≡ Told.Accepted values → taskStep m task .machine .timer .clock .announced .0 ≡ m .timer .clock .announced .0 + toldOf (taskDoes task (values .x)) * m .timer .clock .tick
+  unfolding toldOf doneBy
+  announced-after ready (T.Run p) t e = same-announced (T.Run p) refl e
+  announced-after ready (T.Sample g W.Tell) t e = same-announced (T.Sample g W.Tell) refl e
+  announced-after ready (T.Sample g (W.Operate op)) t e = same-announced (T.Sample g (W.Operate op)) refl e
+  announced-after ready T.Announce t e =
+      let law = stepping.task-done m T.Announce values e in
       ap (λ (n : Machine). n .timer .clock .announced .0) (law .1) ∙ ap (λ (v : Values). m .timer .clock .announced .0 + v .x * m .timer .clock .tick) (sym (law .0))
-  announced-after ready (K.Start i g) t e = same-announced (K.Start i g) refl e
-  announced-after ready (K.Switch i g) t e = same-announced (K.Switch i g) refl e
-  announced-after ready (K.Stop g) t e = same-announced (K.Stop g) refl e
-  announced-after ready (K.Enable i g) t e = same-announced (K.Enable i g) refl e
-  announced-after ready (K.Disable i g) t e = same-announced (K.Disable i g) refl e
-  announced-after ready (K.Report i) t e = same-announced (K.Report i) refl e
-  announced-after ready (K.Setup s) t e = absurd (stepping.no-setup m s ready t)
+  announced-after ready (T.Report i) t e = same-announced (T.Report i) refl e
+  announced-after ready (T.Setup s) t e = absurd (stepping.no-setup m s ready t)
 
--- of a sum that was refused the sample is kept, which announces nothing
-pub sum-announced : (m : Machine) (r : Record) → stepOf m (D.Accepted r) .outcome ≡ Told.Refused Why.WontFit → stepOf m (D.Accepted r) .machine .timer .clock .announced .0 ≡ m .timer .clock .announced .0 + 0 * m .timer .clock .tick
-unfolding leftBy toldOf
-sum-announced m r e =
-    let kept = every-refusal m (D.Accepted r) .1 in
-    let op = kept .only-operations e in
-    let sample = kept .sampled (op .0) (op .1) (op .2) (op .3) e in
-    ap (λ (n : Machine). n .timer .clock .announced .0) (sample .0) ∙ same-announced m _ (K.Sample (op .1)) refl (sample .1)
+-- a sum that was refused added nothing, and announced nothing
+pub sum-adds : (m : Machine) (g : Gaps) (op : Operation) → taskStep m (T.Sample g (W.Operate op)) .outcome ≡ Told.Refused Why.WontFit → taskStep m (T.Sample g (W.Operate op)) .machine .ledger .books .total .0 ≡ m .ledger .books .total .0 + 0
+sum-adds m g op e = ap (λ (n : Machine). n .ledger .books .total .0) (stepping.sum-kept m g op e .0) ∙ sym (add-zero _)
 
-pub nothing-told : (r : Record) → toldOf (sampleOnly (doesOf r 0)) ≡ 0
-unfolding toldOf
-nothing-told (K.Run p) = refl
-nothing-told (K.Sample g) = refl
-nothing-told K.Announce = refl
-nothing-told (K.Start i g) = refl
-nothing-told (K.Switch i g) = refl
-nothing-told (K.Stop g) = refl
-nothing-told (K.Enable i g) = refl
-nothing-told (K.Disable i g) = refl
-nothing-told (K.Report i) = refl
-nothing-told (K.Setup s) = refl
+pub sum-announces : (m : Machine) (g : Gaps) (op : Operation) → taskStep m (T.Sample g (W.Operate op)) .outcome ≡ Told.Refused Why.WontFit → taskStep m (T.Sample g (W.Operate op)) .machine .timer .clock .announced .0 ≡ m .timer .clock .announced .0 + 0 * m .timer .clock .tick
+sum-announces m g op e = ap (λ (n : Machine). n .timer .clock .announced .0) (stepping.sum-kept m g op e .0) ∙ none-told _ (m .timer .clock .tick)
 
 -- bytes that are no record leave the machine as it was
 pub refused-left : (m : Machine) (why : Refusal) → stepOf m (D.Refused why) .machine ≡ m

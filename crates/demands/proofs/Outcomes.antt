@@ -49,18 +49,23 @@ use Rattle.usage.proofs.elapsed_cycles.Reads as usage-elapsed-cycles
 use Rattle.counter.proofs.good_period.Reads as counter-good-period
 use Rattle.counter.proofs.started.Reads as counter-started
 use Rattle.counter.proofs.Counter.in_range.Reads as counter-Counter-in-range
+use Rattle.counter.proofs.Counter.cycles_above.Reads as counter-Counter-cycles-above
 use Rattle.counter.proofs.Counter.cleared.Reads as counter-Counter-cleared
 use Rattle.counter.proofs.run.Reads as counter-run
 use Rattle.counter.proofs.Ran.number.Reads as counter-Ran-number
 use Rattle.counter.proofs.Ran.counter.Reads as counter-Ran-counter
 use Rattle.counter.proofs.Ran.refusal.Reads as counter-Ran-refusal
+use Rattle.counter.proofs.sample_cycles.Reads as counter-sample-cycles
 use Rattle.counter.proofs.readings.Reads as counter-readings
 use Rattle.counter.proofs.SampleRead.refusal.Reads as counter-SampleRead-refusal
 use Rattle.counter.proofs.value_of.Reads as counter-value-of
 use Rattle.counter.proofs.ValueRead.number.Reads as counter-ValueRead-number
 use Rattle.counter.proofs.ValueRead.value.Reads as counter-ValueRead-value
+use Rattle.clock.proofs.Gaps.whole.Reads as clock-Gaps-whole
+use Rattle.clock.proofs.bad_setup.Reads as clock-bad-setup
 use Rattle.clock.proofs.set_up.Reads as clock-set-up
 use Rattle.clock.proofs.well_formed.Reads as clock-well-formed
+use Rattle.clock.proofs.crowded.Reads as clock-crowded
 use Rattle.clock.proofs.sample.Reads as clock-sample
 use Rattle.clock.proofs.announce.Reads as clock-announce
 use Rattle.clock.proofs.SetUp.number.Reads as clock-SetUp-number
@@ -78,11 +83,13 @@ use Rattle.books.proofs.stamp_of.Reads as books-stamp-of
 use Rattle.books.proofs.runs.Reads as books-runs
 use Rattle.books.proofs.enter.Reads as books-enter
 use Rattle.books.proofs.Entered.refusal.Reads as books-Entered-refusal
+use Rattle.books.proofs.no_thread.Reads as books-no-thread
 use Rattle.books.proofs.unrecorded.Reads as books-unrecorded
 use Rattle.books.proofs.past.Reads as books-past
 use Rattle.books.proofs.busy.Reads as books-busy
 use Rattle.books.proofs.concerned.Reads as books-concerned
 use Rattle.ledger.proofs.operate.Reads as ledger-operate
+use Rattle.ledger.proofs.ThreadReport.of.Reads as ledger-ThreadReport-of
 use Rattle.ledger.proofs.report.Reads as ledger-report
 use Rattle.ledger.proofs.Answer.number.Reads as ledger-Answer-number
 use Rattle.ledger.proofs.Answer.cycles.Reads as ledger-Answer-cycles
@@ -152,14 +159,10 @@ use Rattle.table.proofs.tasks.asks_cycles.Reads as table-asks-cycles
 use Rattle.table.proofs.tasks.asks_then.Reads as table-asks-then
 use Rattle.table.proofs.tasks.asks_report.Reads as table-asks-report
 use Rattle.table.proofs.tasks.asks_setup.Reads as table-asks-setup
-use Rattle.changes.proofs.task_change.Reads as changes-task-change
+use Rattle.changes.proofs.change_of.Reads as changes-change-of
 use Rattle.changes.proofs.change_at.Reads as changes-change-at
-use Rattle.machine.proofs.begin.Reads as machine-begin
-use Rattle.machine.proofs.slot.Reads as machine-slot
-use Rattle.machine.proofs.place.Reads as machine-place
-use Rattle.machine.proofs.finish.Reads as machine-finish
-use Rattle.machine.proofs.ending.reported.Reads as machine-reported
 use Rattle.machine.proofs.Machine.core.Reads as machine-Machine-core
+use Rattle.machine.proofs.report_values.Reads as machine-report-values
 use Rattle.machine.proofs.step.Reads as machine-step
 use Rattle.machine.proofs.fresh.Reads as machine-fresh
 use Rattle.lines.proofs.Written.number.Reads as lines-Written-number
@@ -304,11 +307,13 @@ pub counter-outcomes :
     OneOutcome counter-good-period.Post ×
     OneOutcome counter-started.Post ×
     OneOutcome counter-Counter-in-range.Post ×
+    OneOutcome counter-Counter-cycles-above.Post ×
     OneOutcome counter-Counter-cleared.Post ×
     OneOutcome counter-run.Post ×
     OneOutcome counter-Ran-number.Post ×
     OneOutcome counter-Ran-counter.Post ×
     OneOutcome counter-Ran-refusal.Post ×
+    OneOutcome counter-sample-cycles.Post ×
     OneOutcome counter-readings.Post ×
     OneOutcome counter-SampleRead-refusal.Post ×
     OneOutcome counter-value-of.Post ×
@@ -328,11 +333,16 @@ counter-outcomes = (
   once _,
   once _,
   once _,
+  once _,
+  once _,
 )
 
 pub clock-outcomes :
+    OneOutcome clock-Gaps-whole.Post ×
+    OneOutcome clock-bad-setup.Post ×
     OneOutcome clock-set-up.Post ×
     OneOutcome clock-well-formed.Post ×
+    OneOutcome clock-crowded.Post ×
     OneOutcome clock-sample.Post ×
     OneOutcome clock-announce.Post ×
     OneOutcome clock-SetUp-number.Post ×
@@ -360,6 +370,9 @@ clock-outcomes = (
   once _,
   once _,
   once _,
+  once _,
+  once _,
+  once _,
 )
 
 pub books-outcomes :
@@ -368,6 +381,7 @@ pub books-outcomes :
     OneOutcome books-runs.Post ×
     OneOutcome books-enter.Post ×
     OneOutcome books-Entered-refusal.Post ×
+    OneOutcome books-no-thread.Post ×
     OneOutcome books-unrecorded.Post ×
     OneOutcome books-past.Post ×
     OneOutcome books-busy.Post ×
@@ -382,10 +396,12 @@ books-outcomes = (
   once _,
   once _,
   once _,
+  once _,
 )
 
 pub ledger-outcomes :
     OneOutcome ledger-operate.Post ×
+    OneOutcome ledger-ThreadReport-of.Post ×
     OneOutcome ledger-report.Post ×
     OneOutcome ledger-Answer-number.Post ×
     OneOutcome ledger-Answer-cycles.Post ×
@@ -394,6 +410,7 @@ pub ledger-outcomes :
     OneOutcome ledger-Reported-average.Post ×
     OneOutcome ledger-fresh.Post
 ledger-outcomes = (
+  once _,
   once _,
   once _,
   once _,
@@ -435,28 +452,15 @@ table-outcomes = (
   once _,
 )
 
-pub changes-outcomes : OneOutcome changes-task-change.Post × OneOutcome changes-change-at.Post
+pub changes-outcomes : OneOutcome changes-change-of.Post × OneOutcome changes-change-at.Post
 changes-outcomes = (once _, once _)
 
 pub machine-outcomes :
-    OneOutcome machine-begin.Post ×
-    OneOutcome machine-slot.Post ×
-    OneOutcome machine-place.Post ×
-    OneOutcome machine-finish.Post ×
-    OneOutcome machine-reported.Post ×
     OneOutcome machine-Machine-core.Post ×
+    OneOutcome machine-report-values.Post ×
     OneOutcome machine-step.Post ×
     OneOutcome machine-fresh.Post
-machine-outcomes = (
-  once _,
-  once _,
-  once _,
-  once _,
-  once _,
-  once _,
-  once _,
-  once _,
-)
+machine-outcomes = (once _, once _, once _, once _)
 
 pub lines-outcomes :
     OneOutcome lines-Written-number.Post ×

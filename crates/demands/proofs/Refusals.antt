@@ -1,24 +1,19 @@
 -- Counter, clock and the ledger's report refuse by their rows.
-use mathlib.Core.Path.{_≡_, ap}
-use mathlib.Core.Bool.{cond, not}
-use mathlib.Core.List.{List, _∷_}
+use mathlib.Core.Path.{_≡_}
+use mathlib.Core.List.{List}
 use Rattle.error.proofs.Tests.{clash}
-use Rattle.error.specs.declared.Refusal.the-variants.{Invalid}
 use Rattle.error.specs.InOrder.{Row, inOrder}
-use Rattle.error.proofs.Ordered.{accepts, refuses, accepted-only, refused-only, carried}
-use Rattle.systick.specs.Leaves.{announceDecide, announceTests, announceValue}
-use Rattle.systick.specs.declared.AnnounceDecide.the-variants as D
+use Rattle.error.proofs.Ordered.{accepts, refuses, accepted-only, refused-only}
 use Rattle.counter.specs.declared.Ran.the-variants as R
 use Rattle.counter.specs.declared.SampleRead.the-variants as Sample
 use Rattle.counter.specs.declared.ValueRead.the-variants as Read
 use Rattle.counter.specs.Entries.{startedOf, ranOf, readingsOf, valueOf}
-use Rattle.clock.specs.declared.Timer.{Timer}
 use Rattle.clock.specs.declared.SetUp.the-variants as U
 use Rattle.clock.specs.declared.Sampled.the-variants as S
 use Rattle.clock.specs.declared.Announced.the-variants as A
-use Rattle.clock.specs.Timer.{setUp, wellFormed}
+use Rattle.clock.specs.Timer.{setUp}
 use Rattle.clock.specs.Sample.{sampleOf}
-use Rattle.clock.specs.Announce.{announceOf, announcedBy, announcementFrom}
+use Rattle.clock.specs.Announce.{announceOf}
 use Rattle.ledger.specs.declared.Reported.the-variants as P
 use Rattle.ledger.specs.Operate.{reportOf}
 use Rattle.demands.specs.Refusals.{ByRows, EntryRefusals}
@@ -30,16 +25,8 @@ module _ {Reason Answer : Type 0} (rows : List (Row Reason)) (refuse : Reason �
     accepted = (accepted-only refuse answer apart rows, accepts refuse answer rows);
   }
 
--- the leaf's tests, carried over into the announcement's answer
-announce-rows : (t : Timer) → announceOf t ≡ inOrder ((not (wellFormed t), Invalid) ∷ announceTests (t .clock .count) (t .clock .announced) (t .clock .overflow) (t .clock .tick)) A.Refused (A.Accepted (announcementFrom t (announceValue (t .clock .count) (t .clock .announced) (t .clock .overflow) (t .clock .tick))))
-unfolding announceOf announcedBy announceDecide
-announce-rows t =
-    ap (cond (not (wellFormed t)) (A.Refused Invalid))
-    (carried (announcedBy t) D.Refused (D.Accepted (announceValue (t .clock .count) (t .clock .announced) (t .clock .overflow) (t .clock .tick)))
-    (announceTests (t .clock .count) (t .clock .announced) (t .clock .overflow) (t .clock .tick)))
-
 pub entry-refusals : EntryRefusals
-unfolding startedOf ranOf readingsOf valueOf setUp sampleOf reportOf
+unfolding startedOf ranOf readingsOf valueOf setUp sampleOf announceOf reportOf
 entry-refusals = record {
   started = λ period. by-rows _ R.Refused _ (λ why e. clash (cc)) (λ r s e. cc);
   run = λ c n. by-rows _ R.Refused _ (λ why e. clash (cc)) (λ r s e. cc);
@@ -47,6 +34,6 @@ entry-refusals = record {
   value = λ raw period. by-rows _ Read.Refused _ (λ why e. clash (cc)) (λ r s e. cc);
   set-up = λ period tick. by-rows _ U.Refused _ (λ why e. clash (cc)) (λ r s e. cc);
   sample = λ t g. by-rows _ S.Refused _ (λ why e. clash (cc)) (λ r s e. cc);
-  announce = λ t. rw (announce-rows t) (by-rows _ A.Refused _ (λ why e. clash (cc)) (λ r s e. cc));
+  announce = λ t. by-rows _ A.Refused _ (λ why e. clash (cc)) (λ r s e. cc);
   report = λ l i. by-rows _ P.Refused _ (λ why e. clash (cc)) (λ r s e. cc);
 }

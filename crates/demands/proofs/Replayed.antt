@@ -8,7 +8,7 @@ use lib.ListN.{length}
 use lib.Dec.{ltb}
 use borrow.Author.Tests.{le-ltb, ltb-false, eq-eqb, ne-eqb}
 use Rattle.clock.specs.declared.Timer.{Timer}
-use Rattle.clock.specs.Run as clock
+use Rattle.clock.proofs.Run as clock
 use Rattle.trace.specs.declared.Decoded.{Decoded}
 use Rattle.trace.specs.Decode.{decodeOf}
 use Rattle.trace.specs.Handing.{recordsLeft, itemAt, placeAfter, handedFrom}

@@ -2,31 +2,35 @@
 use mathlib.Core.Path.{refl}
 use native.Mathlib.Omega.{arith}
 use Rattle.usage.specs.Leaves.{enabled, accumulated, averageCycles}
-use Rattle.systick.specs.Leaves.{announceDecide}
 use Rattle.counter.specs.Cycle.{cycle, runN, wraps}
 use Rattle.counter.specs.Entries.{goodPeriod, inRange, ranOf}
 use Rattle.clock.specs.Timer.{wellFormed}
 use Rattle.clock.specs.Sample.{sampleOf}
-use Rattle.clock.specs.Announce.{announceOf, announcedBy}
+use Rattle.clock.specs.Announce.{announceOf}
 use Rattle.books.specs.Stamp.{stampOf}
 use Rattle.books.specs.Entries.{runs, charged, withChange, onward, closeOf, stopOf, switchOf, altered, reopenOf, alterOf, enterOf}
 use Rattle.books.specs.Enter.{unrecorded, past, busy, entryOf, concerned}
 use Rattle.ledger.specs.Operate.{storedIn, operateOf}
 use Rattle.ledger.specs.Sums.{sumOf}
-use Rattle.ledger.specs.Run as ledger
+use Rattle.ledger.specs.Threads as ledger
 use Rattle.table.specs.Task.{taskOf, askedBy}
-use Rattle.table.specs.Table.{malformed, crowded}
-use Rattle.machine.specs.Step.{announcedBegun, effectOf, taskBegun, decodedBegun, beginOf, nextThread, slotOf, placeOf, enteredStep, finishNext, stepOf}
-use Rattle.demands.specs.Trace.{afterTouch, happened, seen, watchAll, FairTrace}
+use Rattle.table.specs.Table.{malformed}
+use Rattle.books.specs.Laws.{closes, rises, tooMany, full}
+use Rattle.machine.specs.Step.{announceRows, lastRows, recordRows, afterTouch, doneBy, acceptedBy, stepOf}
+use Rattle.demands.specs.Trace.{happened, seen, watchAll, FairTrace}
 use Rattle.demands.specs.Shown.{Shown}
 
 pub shown : Shown
-unfolding enabled accumulated averageCycles announceDecide cycle runN wraps goodPeriod inRange ranOf wellFormed sampleOf announceOf announcedBy stampOf runs charged withChange onward closeOf stopOf switchOf altered reopenOf alterOf enterOf unrecorded past busy entryOf concerned storedIn operateOf sumOf ledger.closesNow ledger.begins ledger.openAfter ledger.trackedAfter taskOf askedBy malformed crowded stepOf afterTouch happened seen watchAll FairTrace announcedBegun effectOf taskBegun decodedBegun beginOf nextThread slotOf placeOf enteredStep finishNext
+unfolding enabled accumulated averageCycles cycle runN wraps goodPeriod inRange ranOf wellFormed sampleOf announceOf stampOf runs charged withChange onward closeOf stopOf switchOf altered reopenOf alterOf enterOf unrecorded past busy entryOf concerned storedIn operateOf sumOf ledger.closesNow ledger.begins ledger.openAfter ledger.trackedAfter taskOf askedBy malformed stepOf afterTouch happened seen watchAll FairTrace closes rises tooMany full announceRows lastRows recordRows doneBy acceptedBy
 shown = record {
   printed-fair = (omega arith, (omega arith, (omega arith, (omega arith, (omega arith, (omega arith, (omega arith, (omega arith, (omega arith, (omega arith, tt))))))))));
   printed-reads = (refl, refl);
   printed-total = (refl, refl);
   printed-short = omega arith;
+  printed-answers = (refl, (refl, (refl, (refl, (refl, (refl, (refl, (refl, (refl, (refl, tt))))))))));
+  twice-answers = (refl, (refl, (refl, (refl, (refl, (refl, (refl, (refl, (refl, tt)))))))));
+  others-answers = (refl, (refl, (refl, (refl, (refl, (refl, (refl, (refl, (refl, (refl, (refl, (refl, (refl, tt)))))))))))));
+  missed-answers = (refl, (refl, tt));
   zero-fair = omega arith;
   zero-short = omega arith;
   zero-total = (refl, refl, refl);

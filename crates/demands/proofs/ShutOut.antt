@@ -8,20 +8,17 @@ use Rattle.error.proofs.Tests.{clash}
 use Rattle.error.specs.Numbers.{max64}
 use Rattle.usage.specs.Leaves.{enabled, accumulated, averageCycles}
 use Rattle.usage.specs.Record.{newIdle}
-use Rattle.systick.specs.Leaves.{announceDecide}
 use Rattle.counter.specs.Cycle.{cycle, runN, wraps}
 use Rattle.counter.specs.Entries.{goodPeriod, inRange, ranOf}
-use Rattle.clock.specs.Timer.{wellFormed}
-use Rattle.clock.specs.Sample.{sampleOf}
-use Rattle.clock.specs.Announce.{announceOf, announcedBy}
-use Rattle.clock.specs.Shown.{gaps}
-use Rattle.clock.specs.Holds.{GoodSetup}
+use Rattle.clock.specs.Timer.{wellFormed, GoodSetup}
+use Rattle.clock.specs.Sample.{gaps, sampleOf}
+use Rattle.clock.specs.Announce.{announceOf}
 use Rattle.books.specs.Stamp.{stampOf}
 use Rattle.books.specs.Entries.{runs, charged, withChange, onward, closeOf, stopOf, switchOf, altered, reopenOf, alterOf, enterOf}
 use Rattle.books.specs.Enter.{unrecorded, past, busy, entryOf, concerned}
 use Rattle.ledger.specs.Operate.{storedIn, recordOf, operateOf}
 use Rattle.ledger.specs.Sums.{sumOf}
-use Rattle.ledger.specs.Run as ledger
+use Rattle.ledger.specs.Threads as ledger
 use Rattle.trace.specs.declared.Record.the-variants as K
 use Rattle.trace.specs.declared.Decoded.the-variants as D
 use Rattle.machine.specs.declared.Machine.{Machine}
@@ -29,21 +26,23 @@ use Rattle.table.specs.declared.Values.{Values}
 use Rattle.table.specs.declared.Outcome.the-variants as Told
 use Rattle.table.specs.declared.Reason.the-variants as Why
 use Rattle.table.specs.Task.{taskOf, askedBy}
-use Rattle.table.specs.Table.{malformed, crowded}
-use Rattle.machine.specs.Step.{announcedBegun, effectOf, taskBegun, decodedBegun, beginOf, nextThread, slotOf, placeOf, enteredStep, finishNext, freshMachine, stepOf}
-use Rattle.steps.specs.Laws.{recordRows, lastRows}
-use Rattle.steps.specs.Answers.{values, answerTo, leftBy}
-use Rattle.steps.specs.Shown as handed
-use Rattle.demands.specs.Trace.{afterTouch, happened, seen, watchAll, FairTrace}
-use Rattle.demands.specs.Shown.{taken, atOnce}
+use Rattle.table.specs.Table.{malformed}
+use Rattle.books.specs.Laws.{closes, rises, tooMany, full}
+use Rattle.table.specs.Says.{values}
+use Rattle.machine.specs.Step.{announceRows, lastRows, recordRows, afterTouch, doneBy, acceptedBy, freshMachine, stepOf}
+use Rattle.machine.specs.Shown as handed
+use Rattle.demands.specs.Trace.{happened, seen, watchAll, FairTrace}
+use Rattle.demands.specs.Shown.{taken}
+use Rattle.machine.specs.Shown.{atOnce}
 use Rattle.demands.specs.ShutOut.{ShutOut}
 
 -- period 10 and tick 4
 ten : GoodSetup 10 4
-ten = record { least = omega arith; most = omega arith; ticks = omega arith }
+unfolding goodPeriod
+ten = refl
 
 pub shut-out : ShutOut
-unfolding enabled accumulated averageCycles announceDecide cycle runN wraps goodPeriod inRange ranOf wellFormed sampleOf announceOf announcedBy stampOf runs charged withChange onward closeOf stopOf switchOf altered reopenOf alterOf enterOf unrecorded past busy entryOf concerned storedIn operateOf sumOf ledger.closesNow ledger.begins ledger.openAfter ledger.trackedAfter taskOf askedBy malformed crowded stepOf recordRows lastRows answerTo leftBy afterTouch happened seen watchAll FairTrace announcedBegun effectOf taskBegun decodedBegun beginOf nextThread slotOf placeOf enteredStep finishNext
+unfolding enabled accumulated averageCycles cycle runN wraps goodPeriod inRange ranOf wellFormed sampleOf announceOf stampOf runs charged withChange onward closeOf stopOf switchOf altered reopenOf alterOf enterOf unrecorded past busy entryOf concerned storedIn operateOf sumOf ledger.closesNow ledger.begins ledger.openAfter ledger.trackedAfter taskOf askedBy malformed stepOf afterTouch happened seen watchAll FairTrace closes rises tooMany full announceRows lastRows recordRows doneBy acceptedBy
 shut-out = record {
   refuser-falls = λ law.
       let accepted = law .exactly (handed.timed (handed.counter 10 10 false 0) (handed.clock 4 0 0 0)) (D.Accepted (K.Run 0)) .accepted .1 (refl, (refl, (refl, (refl, (refl, (refl, (refl, (refl, tt)))))))) in

@@ -6,21 +6,17 @@ use mathlib.Core.List.{List, [], _∷_, _++_}
 use native.Mathlib.Omega.{arith}
 use native.Mathlib.Nat.{add-zero, add-mul, zero-mul}
 use lib.ListN.{length, length-set, length-replicate}
-use lib.Dec.{eqb}
-use borrow.Author.Tests.{ne-eqb}
 use Rattle.error.proofs.Ordered.{by-outcome}
 use Rattle.units.specs.declared.Cycles.{Cycles}
 use Rattle.usage.specs.Record.{newIdle}
-use Rattle.counter.specs.Entries.{goodPeriod}
 use Rattle.counter.specs.Cycle.{runN, wraps}
-use Rattle.counter.proofs.Outcomes.{good-of-bounds}
+use Rattle.clock.specs.declared.Gaps.{Gaps}
 use Rattle.clock.specs.declared.Timer.{Timer}
 use Rattle.clock.specs.declared.Announcement.{Announcement}
 use Rattle.clock.specs.declared.Announced.the-variants as N
-use Rattle.clock.specs.Sample.{atC}
 use Rattle.clock.specs.Announce.{announceOf}
-use Rattle.clock.specs.Run as clock
-use Rattle.clock.specs.Holds.{GoodSetup}
+use Rattle.clock.specs.Timer.{GoodSetup}
+use Rattle.clock.proofs.Run as clock
 use Rattle.clock.proofs.Runs.{every-run}
 use Rattle.books.specs.declared.Operation.{Operation}
 use Rattle.books.specs.declared.Entered.{Entered}
@@ -31,17 +27,26 @@ use Rattle.ledger.specs.declared.Answer.{Answer}
 use Rattle.ledger.specs.declared.Answer.the-variants as A
 use Rattle.ledger.specs.declared.Ledgered.{Ledgered}
 use Rattle.ledger.specs.Operate.{freshOf, refusedWith, storedIn, operateTests, operateOf}
-use Rattle.ledger.specs.Run as ledger
 use Rattle.trace.specs.declared.Record.{Record}
+use Rattle.trace.specs.declared.Record.the-variants as K
+use Rattle.ledger.specs.Threads.{begins}
+use Rattle.ledger.proofs.Run as ledger
 use Rattle.trace.specs.declared.Decoded.{Decoded}
 use Rattle.trace.specs.declared.Decoded.the-variants as D
+use Rattle.table.specs.declared.Reason.the-variants as Why
+use Rattle.table.specs.declared.Outcome.the-variants as Told
+use Rattle.table.specs.declared.tasks.Task.{Task}
+use Rattle.table.specs.declared.tasks.Task.the-variants as T
+use Rattle.table.specs.declared.tasks.Then.the-variants as W
+use Rattle.table.specs.Task.{taskOf}
 use Rattle.machine.specs.declared.Machine.{Machine}
-use Rattle.machine.specs.Step.{freshMachine, stepOf}
-use Rattle.steps.proofs.Stepping as stepping
-use Rattle.steps.proofs.Stepping.{Touches}
-use Rattle.demands.specs.Trace.{Does, nothing, runs, tell, samples, operates, doesOf, sampleOnly, afterTouch, happened, Watched, seen, watch, watchAll, setUp}
+use Rattle.machine.specs.declared.Stepped.{Stepped}
+use Rattle.machine.specs.Step.{lastRows, afterTouch, doneBy, freshMachine, stepOf}
+use Rattle.machine.proofs.Stepping as stepping
+use Rattle.machine.proofs.Stepping.{taskStep, Touches}
+use Rattle.demands.specs.Trace.{Does, nothing, runs, tell, samples, operates, Watched, seen, watch, watchAll, setUp, happened}
 use Rattle.demands.proofs.Counting.{Tracks}
-use Rattle.demands.proofs.Moving.{Ending, taken, summed, left, timeOf, on-and-on, entries-on, ending, Moved, operation, moved, Follows, follows, answeredOf, adds, sum-kept, toldOf, announced-after, sum-announced, nothing-told, refused-left}
+use Rattle.demands.proofs.Moving.{taskDoes, happenedBy, happened-is, Ending, taken, summed, left, timeOf, on-and-on, entries-on, ending, Moved, moved, Follows, follows, answeredOf, adds, toldOf, announced-after, sum-adds, sum-announces, refused-left}
 
 -- the onlooker's sum goes up by as much
 abbrev pub Rise : Watched → Type 0
@@ -53,20 +58,11 @@ rise-seen nothing after w rise e = omega arith
 rise-seen (runs n) after w rise e = omega arith
 rise-seen (tell n) after w rise e = omega arith
 rise-seen (samples g) after w rise e = omega arith
-rise-seen (operates op g x) after w rise e = by-test (ledger.begins (w .threads) op)
+rise-seen (operates op g x) after w rise e = by-test (begins (w .threads) op)
   where
     by-test : (new : Bool) → after .ledger .books .total .0 ≡ cond new (w .before + w .since) (w .before) + cond new x (w .since + x)
     by-test true = omega arith
     by-test false = omega arith
-
--- a refused operation leaves the times of its sample
-pub only-sample : (d : Does) (after : Machine) (w : Watched) → (seen (sampleOnly d) after w .ran ≡ seen d after w .ran) × (seen (sampleOnly d) after w .atC ≡ seen d after w .atC) × (answeredOf (sampleOnly d) ≡ 0)
-unfolding seen answeredOf
-only-sample nothing after w = (refl, refl, refl)
-only-sample (runs n) after w = (refl, refl, refl)
-only-sample (tell n) after w = (refl, refl, refl)
-only-sample (samples g) after w = (refl, refl, refl)
-only-sample (operates op g x) after w = (refl, refl, refl)
 
 pub seen-machine : (d : Does) (after : Machine) (w : Watched) → seen d after w .machine ≡ after
 unfolding seen
@@ -129,6 +125,16 @@ after-slots (e ∷ es) w = after-slots es (ledger.step e w) ∙ step-slots e w
 pub table-size : {slots period tick : ℕ} (w : Watched) → Same slots period tick w → length (w .machine .ledger .threads) ≡ slots
 table-size {slots} w same = ap (λ (l : Ledger). length (l .threads)) (same .entered) ∙ (after-slots (same .entries) (ledger.begin slots) ∙ length-replicate slots newIdle)
 
+-- what the onlooker keeps after a task
+abbrev pub afterTask : Task → Watched → Watched
+afterTask task w = seen (happenedBy task (taskStep (w .machine) task .outcome)) (taskStep (w .machine) task .machine) w
+
+-- which is what it keeps after the record
+pub watched-task : (r : Record) (w : Watched) → watch stepOf (D.Accepted r) w ≡ afterTask (taskOf r) w
+watched-task r w =
+    ap (λ (d : Does). seen d (stepOf (w .machine) (D.Accepted r) .machine) w) (happened-is (w .machine) r) ∙
+    ap (λ (s : Stepped). seen (happenedBy (taskOf r) (taskStep (w .machine) (taskOf r) .outcome)) (s .machine) w) (stepping.of-task (w .machine) r)
+
 module _ {slots period tick : ℕ} (some : 0 < slots) (good : GoodSetup period tick) where
   pub announces : (w : Watched) → Same slots period tick w → (a : Announcement) × (announceOf (w .machine .timer) ≡ N.Accepted a)
   announces w same =
@@ -141,24 +147,24 @@ module _ {slots period tick : ℕ} (some : 0 < slots) (good : GoodSetup period t
   pub has-slots : (w : Watched) → Same slots period tick w → 0 < length (w .machine .ledger .threads)
   has-slots w same = subst (λ (n : ℕ). 0 < n) (sym (table-size w same)) some
 
-  -- a touched record, told as what it did or, where a sum was refused, as its sample
-  module _ (w : Watched) (r : Record) (same : Same slots period tick w) (t : Touches (w .machine) r) where
-    abbrev pub next : Machine
-    next = stepOf (w .machine) (D.Accepted r) .machine
+  -- a touched task, told as what it did or, where a sum was refused, as its sample
+  module _ (w : Watched) (task : Task) (same : Same slots period tick w) (t : Touches (w .machine) task) where
+    abbrev next : Machine
+    next = taskStep (w .machine) task .machine
 
-    unfoldable pub at : Moved (w .machine) (clock.after (same .events) (clock.start period tick)) r
-    at = moved (w .machine) (clock.after (same .events) (clock.start period tick)) (same .timer) r (same .ready) (announces w same) t
+    unfoldable pub at : Moved (w .machine) (clock.after (same .events) (clock.start period tick)) task
+    at = moved (w .machine) (clock.after (same .events) (clock.start period tick)) (same .timer) task (same .ready) (announces w same) t
 
-    unfoldable pub touched-same : (d : Does) (n : ℕ) → seen d next w .ran ≡ seen (doesOf r n) next w .ran → seen d next w .atC ≡ seen (doesOf r n) next w .atC → next .ledger .books .total .0 ≡ w .machine .ledger .books .total .0 + answeredOf d → next .timer .clock .announced .0 ≡ w .machine .timer .clock .announced .0 + toldOf d * w .machine .timer .clock .tick → Same slots period tick (seen d next w)
+    unfoldable pub touched-same : (d : Does) (n : ℕ) → seen d next w .ran ≡ seen (taskDoes task n) next w .ran → seen d next w .atC ≡ seen (taskDoes task n) next w .atC → next .ledger .books .total .0 ≡ w .machine .ledger .books .total .0 + answeredOf d → next .timer .clock .announced .0 ≡ w .machine .timer .clock .announced .0 + toldOf d * w .machine .timer .clock .tick → Same slots period tick (seen d next w)
     unfolding Follows
     touched-same d n er ec total announced =
         let x = clock.after (same .events) (clock.start period tick) in
-        let step = follows (w .machine) x (same .timer) period w (same .tracks) next n r (same .ready) t in
-        let world = on-and-on (same .events) (timeOf r) (clock.start period tick) in
+        let step = follows (w .machine) x (same .timer) period w (same .tracks) next n task (same .ready) t in
+        let world = on-and-on (same .events) (timeOf task) (clock.start period tick) in
         let is = seen-machine d next w in
         record {
           ready = ap (λ (m : Machine). m .ready) is ∙ (at .ready ∙ same .ready);
-          events = same .events ++ timeOf r;
+          events = same .events ++ timeOf task;
           timer = ap (λ (m : Machine). m .timer) is ∙ (at .timer ∙ ap (λ (y : clock.World). y .timer) (sym world));
           tracks = rw (er, ec, world) step;
           entries = same .entries ++ at .entries;
@@ -172,16 +178,21 @@ module _ {slots period tick : ℕ} (some : 0 < slots) (good : GoodSetup period t
   unfolding seen
   left-same w machine e same = record { ready = rw e (same .ready); events = same .events; timer = rw e (same .timer); tracks = same .tracks; entries = same .entries; entered = rw e (same .entered); rise = rw e (same .rise); told = rw e (same .told) }
 
-  pub watch-same : (d : Decoded) (w : Watched) → Same slots period tick w → Same slots period tick (watch stepOf d w)
-  unfolding happened afterTouch
-  watch-same (D.Accepted r) w same = by-ending (ending (w .machine) r)
+  task-same : (task : Task) (w : Watched) → Same slots period tick w → Same slots period tick (afterTask task w)
+  unfolding happenedBy afterTouch seen answeredOf toldOf
+  task-same task w same = by-ending (ending (w .machine) task)
     where
-      by-ending : Ending (w .machine) r → Same slots period tick (watch stepOf (D.Accepted r) w)
-      by-ending (taken values e t) = rw e (touched-same w r same t (doesOf r (values .x)) (values .x) refl refl (adds (w .machine) (same .ready) (has-slots w same) values r t e) (announced-after (w .machine) values (same .ready) r t e))
-      by-ending (summed e t) =
-          let times = only-sample (doesOf r 0) (stepOf (w .machine) (D.Accepted r) .machine) w in
-          rw e (touched-same w r same t (sampleOnly (doesOf r 0)) 0 (times .0) (times .1) (ap (λ (l : Ledger). l .books .total .0) (sum-kept (w .machine) r e) ∙ (sym (add-zero _) ∙ ap (λ (n : ℕ). w .machine .ledger .books .total .0 + n) (sym (times .2)))) (rw (nothing-told r) (sum-announced (w .machine) r e)))
+      after-sum : (g : Gaps) (op : Operation) → taskStep (w .machine) (T.Sample g (W.Operate op)) .outcome ≡ Told.Refused Why.WontFit → Touches (w .machine) (T.Sample g (W.Operate op)) → Same slots period tick (afterTask (T.Sample g (W.Operate op)) w)
+      after-sum g op e t = rw e (touched-same w (T.Sample g (W.Operate op)) same t (samples g) 0 refl refl (sum-adds (w .machine) g op e) (sum-announces (w .machine) g op e))
+
+      by-ending : Ending (w .machine) task → Same slots period tick (afterTask task w)
+      by-ending (taken values e t) = rw e (touched-same w task same t (taskDoes task (values .x)) (values .x) refl refl (adds (w .machine) (same .ready) (has-slots w same) values task t e) (announced-after (w .machine) values (same .ready) task t e))
+      by-ending (summed g op is e t) = rw is (after-sum g op e t)
       by-ending (left why e before stays) = rw (e, before) (left-same w _ stays same)
+
+  pub watch-same : (d : Decoded) (w : Watched) → Same slots period tick w → Same slots period tick (watch stepOf d w)
+  unfolding happened
+  watch-same (D.Accepted r) w same = subst (Same slots period tick) (sym (watched-task r w)) (task-same (taskOf r) w same)
   watch-same (D.Refused why) w same = left-same w _ (refused-left (w .machine) why) same
 
   pub all-same : (ds : List Decoded) (w : Watched) → Same slots period tick w → Same slots period tick (watchAll stepOf ds w)
@@ -189,14 +200,10 @@ module _ {slots period tick : ℕ} (some : 0 < slots) (good : GoodSetup period t
   all-same [] w same = same
   all-same (d ∷ ds) w same = all-same ds (watch stepOf d w) (watch-same d w same)
 
--- a setup as 01 has it
-good-setup : (period tick : ℕ) → GoodSetup period tick → (goodPeriod period ≡ true) × (eqb tick 0 ≡ false)
-good-setup period tick good = (good-of-bounds period (good .least) (good .most), ne-eqb tick 0 (λ z. let h = good .ticks in omega arith))
-
 pub setup-machine : (slots period tick : ℕ) → GoodSetup period tick → setUp stepOf slots period tick .machine ≡ record { ready = true; timer = clock.start period tick .timer; ledger = ledger.begin slots .ledger }
+unfolding taskOf lastRows doneBy
 setup-machine slots period tick good =
-    let ok = good-setup period tick good in
-    stepping.set-up (freshMachine slots) (record { period = period; tick = tick }) (stepping.setup-touches (freshMachine slots) (record { period = period; tick = tick }) refl (ok .0) (ok .1) refl) ∙
+    ap (λ (s : Stepped). s .machine) (stepping.of-task (freshMachine slots) (K.Setup (record { period = period; tick = tick })) ∙ stepping.done (freshMachine slots) (T.Setup (record { period = period; tick = tick })) refl (stepping.setup-touches (freshMachine slots) (record { period = period; tick = tick }) refl good refl)) ∙
     ap (λ (n : ℕ). record { ready = true; timer = clock.start period tick .timer; ledger = freshOf n }) (length-replicate slots newIdle)
 
 unfoldable pub begin-same : (slots period tick : ℕ) → GoodSetup period tick → Same slots period tick (setUp stepOf slots period tick)

@@ -1,14 +1,14 @@
 -- Demand 1: any machine handed in and any bytes or record; what is refused with which number, and what a refusal leaves.
 use Prim.Native.Nat.{ℕ, _<_}
 use mathlib.Core.Path.{_≡_}
-use mathlib.Core.Bool.{true, false}
+use mathlib.Core.Bool.{true}
 use mathlib.Core.List.{List}
 use lib.IntN.{ℤ}
 use Rattle.error.specs.declared.Refusal.{Refusal}
 use Rattle.error.specs.Numbers.{minus, max32, numberOf}
 use Rattle.error.specs.Said.{accepted}
 use Rattle.clock.specs.declared.Gaps.{Gaps}
-use Rattle.clock.specs.Holds.{GoodSetup}
+use Rattle.clock.specs.Timer.{GoodSetup}
 use Rattle.ledger.specs.Operate.{recordOf}
 use Rattle.trace.specs.declared.Record.{Record}
 use Rattle.trace.specs.declared.Record.the-variants as K
@@ -21,10 +21,8 @@ use Rattle.table.specs.declared.Reason.{Reason}
 use Rattle.table.specs.declared.Reason.the-variants as Why
 use Rattle.table.specs.declared.Values.{Values}
 use Rattle.table.specs.declared.Outcome.the-variants as Told
-use Rattle.table.specs.Says.{outcomeSays}
-use Rattle.steps.specs.Laws.{Exactly, Kept}
-use Rattle.steps.specs.Answers.{values}
-use Rattle.demands.specs.Rows.{malformedRow, rowsOf}
+use Rattle.table.specs.Says.{outcomeSays, values}
+use Rattle.machine.specs.Laws.{Whole, Exactly, Kept}
 use Rattle.demands.specs.Trace.{Watched, Fair, doesOf, watchAll, setUp, FairTrace}
 
 -- a refused record says its row's number, and 0 0
@@ -52,7 +50,7 @@ module _ (step : Machine → Decoded → Stepped) (period : ℕ) where
   pub record FromSetup (w : Watched) : Type 0 where
     -- the machine stays set up, is never taken for malformed, and announces whenever it is asked to
     pub ready : w .machine .ready ≡ true
-    pub whole : malformedRow (w .machine) .0 ≡ false
+    pub whole : Whole (w .machine)
     pub announces : (answered : Values) × (step (w .machine) (D.Accepted K.Announce) .outcome ≡ Told.Accepted answered)
 
   -- in a fair run no sum is refused: where -139 comes after the touch, a count of windows is full
@@ -67,7 +65,7 @@ pub record Demand1 (step : Machine → Decoded → Stepped) : Type 0 where
   -- sixteen bytes are a record if and only if they are what it is encoded as, and all others meet the first row
   pub decodes : Decodes
   -- each row of 01's table if and only if its test holds and no earlier row's does, the malformed state first
-  pub exactly : (m : Machine) (d : Decoded) → Exactly step (rowsOf m d) m d
+  pub exactly : (m : Machine) (d : Decoded) → Exactly step m d
   -- before the touch nothing is changed, and after it the sample is kept and nothing else changed
   pub kept : (m : Machine) (d : Decoded) → Kept step m d
   pub numbers : RowNumbers

@@ -1,11 +1,11 @@
 -- Demand 2, gathered: upstream's clauses, 01's formulas and exact refusals, and the round trip.
 use Rattle.books.specs.Laws as books
 use Rattle.ledger.specs.Laws as ledger
+use Rattle.ledger.specs.Sums.{StampsNear}
 use Rattle.trace.specs.declared.Decoded.{Decoded}
 use Rattle.machine.specs.declared.Machine.{Machine}
 use Rattle.machine.specs.declared.Stepped.{Stepped}
-use Rattle.steps.specs.Laws.{Exactly, EveryAnswer}
-use Rattle.demands.specs.Rows.{rowsOf}
+use Rattle.machine.specs.Laws.{Exactly, EveryAnswer}
 use Rattle.demands.specs.Leaves.{ElapsedCyclesExact, CyclesToTicksExact, TicksToCyclesExact, MaxTicksExact, ElapsedDecideExact, AnnounceDecideExact, EnableExact, DisableExact, AccumulateExact, AverageIs, StampIs, StampsApart, RoundTrip}
 use Rattle.demands.specs.Refusals.{EntryRefusals}
 use Rattle.demands.specs.UpstreamTimer.{TimerClauses, TimerLemmas}
@@ -31,13 +31,15 @@ pub record Demand2 (step : Machine → Decoded → Stepped) : Type 0 where
   pub average : AverageIs
   pub stamp : StampIs
   pub stamps-apart : StampsApart
+  -- (within 2^32 - 2 cycles, measured less true is -1, 0 or +1)
+  pub stamps-near : StampsNear
   -- of counter, clock and ledger, and of a trace's records
   pub entry-refusals : EntryRefusals
   pub operations : ledger.EveryOperation
   pub operation-refusals : ledger.EveryRefusal
   pub entry-of-one-record : books.EveryEntry
   pub records : EveryAnswer step
-  pub record-refusals : (m : Machine) (d : Decoded) → Exactly step (rowsOf m d) m d
+  pub record-refusals : (m : Machine) (d : Decoded) → Exactly step m d
   -- For a tick above 0, ticks made into cycles come back as the same ticks, wherever they fit.
   pub round-trip : RoundTrip
   -- and 01's numbers to check

@@ -1,11 +1,12 @@
 -- Demand 3, over whole traces from setup: any list of records, refused ones included, by a machine's own step.
-use Prim.Native.Nat.{ℕ, _+_, _-_, _*_, _/_, _%_, _<_, _≤_}
+use Prim.Native.Nat.{ℕ, _+_, _*_, _/_, _<_}
 use mathlib.Core.Path.{_≡_}
 use mathlib.Core.List.{List}
 use Rattle.clock.specs.declared.Gaps.{Gaps}
-use Rattle.clock.specs.Holds.{GoodSetup}
+use Rattle.clock.specs.Timer.{GoodSetup}
+use Rattle.clock.specs.Announce.{LargestMultiple}
 use Rattle.ledger.specs.Operate.{recordOf}
-use Rattle.ledger.specs.Sums.{trueCycles, sumOf, edge, AllShort, ChainShort, firstOf, Within}
+use Rattle.ledger.specs.Sums.{TotalNear, ChainNear}
 use Rattle.trace.specs.declared.Record.the-variants as K
 use Rattle.trace.specs.declared.Decoded.{Decoded}
 use Rattle.trace.specs.declared.Decoded.the-variants as D
@@ -14,15 +15,6 @@ use Rattle.machine.specs.declared.Stepped.{Stepped}
 use Rattle.table.specs.declared.Values.{Values}
 use Rattle.table.specs.declared.Outcome.the-variants as Told
 use Rattle.demands.specs.Trace.{Watched, FairSample, timeC, watchAll, setUp, FairTrace}
-
--- announced cycles, against the last reading before them
-pub record LargestMultiple (period tick announced last : ℕ) : Type 0 where
-  -- the largest multiple of the tick within the whole periods counted
-  pub multiple : announced % tick ≡ 0
-  pub within : announced ≤ last / period * period
-  pub largest : last / period * period < announced + tick
-  -- it lags the last reading by at most period plus tick less 2
-  pub lag : last ≤ announced + (period + tick - 2)
 
 module _ (step : Machine → Decoded → Stepped) (period tick : ℕ) where
   -- an accepted announcement, from a machine to the next, with its answer
@@ -49,9 +41,9 @@ module _ (step : Machine → Decoded → Stepped) (period tick : ℕ) where
     pub shows : (g : Gaps) (answered : Values) → FairSample period (w .ran) (w .atC) g → step (w .machine) (D.Accepted (K.Sample g)) .outcome ≡ Told.Accepted answered → w .machine .timer .clock .count .0 + answered .x ≡ timeC (w .ran) g
     -- each thread's total misses its true tracked cycles, over closed stretches, by at most one per stretch that begins or
     -- ends on a multiple of 2^32, where none exceeds 2^32 - 2 cycles
-    pub totals : (i : ℕ) → AllShort i (w .threads .closed) → Within (recordOf (w .machine .ledger) i .«total_cycles» .0) (sumOf trueCycles i (w .threads .closed)) (sumOf edge i (w .threads .closed))
+    pub totals : (i : ℕ) → TotalNear i (recordOf (w .machine .ledger) i .«total_cycles» .0) (w .threads .closed)
     -- all stretches since one start, summed as they were answered, miss by at most one
-    pub chain : ChainShort (w .threads .last) (w .threads .times) → Within (w .since) (trueCycles (firstOf (w .threads .last) (w .threads .times)) (w .threads .last)) (edge (firstOf (w .threads .last) (w .threads .times)) (w .threads .last))
+    pub chain : ChainNear (w .since) (w .threads .last) (w .threads .times)
 
 abbrev pub Demand3 : (Machine → Decoded → Stepped) → Type 0
 Demand3 step =

@@ -6,7 +6,6 @@ pub mod UpstreamTimer
 pub mod UpstreamThread
 pub mod Outcome
 pub mod Lent
-pub mod Rows
 pub mod Trace
 pub mod Demand1
 pub mod Demand2

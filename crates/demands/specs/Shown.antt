@@ -1,24 +1,26 @@
--- Traces that show what the demands are worth: their premises are met, each of them is needed, and their bounds are attained.
-use Prim.Native.Nat.{ℕ, _+_, _-_, _<_, _≤_}
+-- Traces that show what the demands are worth: their premises are met, each of them is needed, their bounds are attained, and records answer what 01 prints.
+use Prim.Native.Nat.{ℕ, _+_, _-_, _<_}
 use mathlib.Core.Path.{_≡_}
 use mathlib.Core.List.{List, [], _∷_}
 use Rattle.clock.specs.declared.Gaps.{Gaps}
-use Rattle.clock.specs.Shown.{gaps}
+use Rattle.clock.specs.Sample.{gaps}
 use Rattle.ledger.specs.Operate.{recordOf}
 use Rattle.ledger.specs.Sums.{trueCycles, sumOf, edge, AllShort, ChainShort}
 use Rattle.trace.specs.declared.Record.{Record}
 use Rattle.trace.specs.declared.Record.the-variants as K
 use Rattle.trace.specs.declared.Decoded.{Decoded}
 use Rattle.trace.specs.declared.Decoded.the-variants as D
+use Rattle.table.specs.declared.Values.{Values}
+use Rattle.table.specs.declared.Outcome.the-variants as Told
+use Rattle.machine.specs.declared.Machine.{Machine}
+use Rattle.table.specs.Says.{values}
 use Rattle.machine.specs.Step.{stepOf}
-use Rattle.demands.specs.Trace.{Watched, wrapsBy, timeC, wholeOf, FairSample, watchAll, setUp, FairTrace}
+use Rattle.machine.specs.Shown.{atOnce}
+use Rattle.demands.specs.Trace.{Watched, Quick, OneWrap, NoneToD, FairSample, watchAll, setUp, FairTrace}
 
 abbrev pub taken : List Record → List Decoded
 taken [] = []
 taken (r ∷ rs) = D.Accepted r ∷ taken rs
-
-abbrev pub atOnce : Gaps
-atOnce = gaps 0 0 0
 
 -- 01's printed case, after its setup
 abbrev pub printed : List Decoded
@@ -36,6 +38,14 @@ printed =
     K.Stop atOnce ∷
     [])
 
+-- two windows of one thread, and what ran between them untracked
+abbrev pub twice : List Decoded
+twice = taken (K.Enable 0 atOnce ∷ K.Start 0 atOnce ∷ K.Run 5 ∷ K.Disable 0 atOnce ∷ K.Run 3 ∷ K.Enable 0 atOnce ∷ K.Run 6 ∷ K.Stop atOnce ∷ K.Report 0 ∷ [])
+
+-- the second thread, by every kind that names one
+abbrev pub others : List Decoded
+others = taken (K.Enable 1 atOnce ∷ K.Start 1 atOnce ∷ K.Run 5 ∷ K.Switch 0 atOnce ∷ K.Run 3 ∷ K.Switch 1 atOnce ∷ K.Run 2 ∷ K.Disable 1 atOnce ∷ K.Run 4 ∷ K.Stop atOnce ∷ K.Report 1 ∷ K.Report 1 ∷ K.Report 0 ∷ [])
+
 -- a tracked stretch that begins at 0, a multiple of 2^32
 abbrev pub from-zero : List Decoded
 from-zero = taken (K.Enable 0 atOnce ∷ K.Start 0 atOnce ∷ K.Run 9 ∷ K.Stop atOnce ∷ [])
@@ -48,19 +58,23 @@ three = taken (K.Start 0 atOnce ∷ K.Run 3 ∷ K.Switch 1 atOnce ∷ K.Run 2 �
 abbrev pub after : List Decoded → Watched
 after ds = watchAll stepOf ds (setUp stepOf 2 10 4)
 
+-- each record of a trace is accepted, and answers so
+abbrev pub Answers : Machine → List Decoded → List Values → Type 0
+Answers m [] [] = Unit {0}
+Answers m [] (v ∷ vs) = ⊥
+Answers m (d ∷ ds) [] = ⊥
+Answers m (d ∷ ds) (v ∷ vs) = (stepOf m d .outcome ≡ Told.Accepted v) × Answers (stepOf m d .machine) ds vs
+
 -- the last reading is so much at so many cycles
 abbrev pub Reads : List Record → ℕ → ℕ → Type 0
 Reads rs read cycles = (after (taken rs) .machine .timer .clock .last .0 ≡ read) × (after (taken rs) .atC ≡ cycles)
 
--- the premises one by one, of a sample after a trace
-abbrev pub Quick : Gaps → Type 0
-Quick g = g .p + g .q < 10
+-- the premises on wraps, of a sample after a trace
+abbrev pub OneWrapAfter : List Record → Gaps → Type 0
+OneWrapAfter rs g = let w = after (taken rs) in OneWrap 10 (w .ran) (w .atC) g
 
-abbrev pub OneWrap : List Record → Gaps → Type 0
-OneWrap rs g = let w = after (taken rs) in wrapsBy 10 (timeC (w .ran) g) ≤ wrapsBy 10 (w .atC) + 1
-
-abbrev pub NoneToD : List Record → Gaps → Type 0
-NoneToD rs g = let w = after (taken rs) in wrapsBy 10 (w .atC) < wrapsBy 10 (timeC (w .ran) g) → wrapsBy 10 (w .ran + wholeOf g) ≡ wrapsBy 10 (timeC (w .ran) g)
+abbrev pub NoneToDAfter : List Record → Gaps → Type 0
+NoneToDAfter rs g = let w = after (taken rs) in NoneToD 10 (w .ran) (w .atC) g
 
 -- refused records, which leave the run as it is
 abbrev pub refused : List Decoded
@@ -72,6 +86,14 @@ pub record Shown : Type 0 where
   pub printed-reads : (after printed .machine .timer .clock .last .0 ≡ 23) × (after printed .atC ≡ 23)
   pub printed-total : (recordOf (after printed .machine .ledger) 0 .«total_cycles» .0 ≡ 12) × (sumOf trueCycles 0 (after printed .threads .closed) ≡ 12)
   pub printed-short : AllShort 0 (after printed .threads .closed)
+  -- its answers, record by record, as 01 prints them
+  pub printed-answers : Answers (after [] .machine) printed (values 0 0 ∷ values 0 0 ∷ values 11 1 ∷ values 11 0 ∷ values 2 8 ∷ values 10 0 ∷ values 0 0 ∷ values 12 0 ∷ values 12 12 ∷ values 0 0 ∷ [])
+  -- a report's average over two windows, and what disable and enable close
+  pub twice-answers : Answers (after [] .machine) twice (values 0 0 ∷ values 0 0 ∷ values 0 0 ∷ values 4 0 ∷ values 0 0 ∷ values 3 0 ∷ values 0 0 ∷ values 6 0 ∷ values 10 5 ∷ [])
+  -- each kind is of the thread that it names; a report asked for twice answers the same
+  pub others-answers : Answers (after [] .machine) others (values 0 0 ∷ values 0 0 ∷ values 0 0 ∷ values 4 0 ∷ values 0 0 ∷ values 3 0 ∷ values 0 0 ∷ values 2 0 ∷ values 0 0 ∷ values 4 0 ∷ values 6 6 ∷ values 6 6 ∷ values 0 0 ∷ [])
+  -- a wrap from B to C that a slow sample missed is told by the flag to the next one
+  pub missed-answers : Answers (after [] .machine) (taken (K.Sample (gaps 5 9 0) ∷ K.Sample atOnce ∷ [])) (values 4 0 ∷ values 14 1 ∷ [])
   -- a total that misses one cycle, as one edge allows
   pub zero-fair : FairTrace stepOf 10 from-zero (setUp stepOf 2 10 4)
   pub zero-short : AllShort 0 (after from-zero .threads .closed)
@@ -82,13 +104,13 @@ pub record Shown : Type 0 where
   pub three-sum : (after three .since ≡ 8) × (after three .threads .last ≡ 9) × (after three .machine .ledger .books .total .0 ≡ 8)
   -- each premise broken alone reads 10 cycles short: a slow sample,
   pub slow : Reads (K.Sample (gaps 0 10 0) ∷ []) 0 10
-  pub slow-alone : (Quick (gaps 0 10 0) → ⊥) × OneWrap [] (gaps 0 10 0) × NoneToD [] (gaps 0 10 0)
+  pub slow-alone : (Quick 10 (gaps 0 10 0) → ⊥) × OneWrapAfter [] (gaps 0 10 0) × NoneToDAfter [] (gaps 0 10 0)
   -- two wraps since the last C,
   pub late : Reads (K.Run 20 ∷ K.Sample atOnce ∷ []) 10 20
-  pub late-alone : Quick atOnce × (OneWrap (K.Run 20 ∷ []) atOnce → ⊥) × NoneToD (K.Run 20 ∷ []) atOnce
+  pub late-alone : Quick 10 atOnce × (OneWrapAfter (K.Run 20 ∷ []) atOnce → ⊥) × NoneToDAfter (K.Run 20 ∷ []) atOnce
   -- and a wrap between C and D, after which the next sample is fair
   pub lost : Reads (K.Run 10 ∷ K.Sample (gaps 0 0 10) ∷ K.Sample atOnce ∷ []) 10 20
-  pub lost-alone : Quick (gaps 0 0 10) × OneWrap (K.Run 10 ∷ []) (gaps 0 0 10) × (NoneToD (K.Run 10 ∷ []) (gaps 0 0 10) → ⊥)
+  pub lost-alone : Quick 10 (gaps 0 0 10) × OneWrapAfter (K.Run 10 ∷ []) (gaps 0 0 10) × (NoneToDAfter (K.Run 10 ∷ []) (gaps 0 0 10) → ⊥)
   pub lost-then-fair : FairSample 10 20 10 atOnce
   -- refused records change nothing, and are as fair as any
   pub refused-nothing : after refused ≡ after []

@@ -4,10 +4,9 @@ use mathlib.Core.Bool.{Bool, true, false, cond, not, _&&_}
 use lib.ListN.{set}
 use lib.Dec.{leb, eqb}
 use Rattle.counter.specs.declared.Counter.{Counter}
-use Rattle.counter.specs.Cycle.{runN, cleared}
+use Rattle.counter.specs.Cycle.{cleared}
 use Rattle.clock.specs.declared.Gaps.{Gaps}
-use Rattle.clock.specs.Shown.{gaps}
-use Rattle.clock.specs.Sample.{atC, decision}
+use Rattle.clock.specs.Sample.{gaps, readings, decision, crowded}
 use Rattle.ledger.specs.Operate.{recordOf}
 use Rattle.trace.specs.declared.Record.{Record}
 use Rattle.trace.specs.declared.Record.the-variants as K
@@ -19,10 +18,8 @@ use Rattle.table.specs.declared.Reason.the-variants as Why
 use Rattle.table.specs.declared.Values.{Values}
 use Rattle.table.specs.declared.Outcome.{Outcome}
 use Rattle.table.specs.declared.Outcome.the-variants as Told
-use Rattle.table.specs.Table.{crowded}
-use Rattle.machine.specs.Step.{stepOf}
-use Rattle.steps.specs.Answers.{values}
-use Rattle.demands.specs.Trace.{afterTouch}
+use Rattle.table.specs.Says.{values}
+use Rattle.machine.specs.Step.{afterTouch, stepOf}
 use Rattle.demands.specs.Demand1.{Demand1}
 use Rattle.demands.specs.Demand2.{Demand2}
 use Rattle.demands.specs.Demand3.{Demand3}
@@ -158,7 +155,7 @@ answersNothing = answering (λ r v. cond (eqb (kind r) 5) (values 0 0) v)
 
 -- 01's "Slips we have seen": D left out, so that the flag stands for a wrap that is counted
 abbrev noD : Machine → Decoded → Stepped
-noD = leaving (λ m r n. cond (eqb (kind r) 1) (withCounter n (runN (gapsOf r .r) (atC (m .timer .counter) (gapsOf r)))) n)
+noD = leaving (λ m r n. cond (eqb (kind r) 1) (withCounter n (readings (m .timer) (gapsOf r) .after)) n)
 
 -- period L + 1
 abbrev longer : Machine → Decoded → Stepped
@@ -169,7 +166,7 @@ abbrev atMost : Machine → Decoded → Stepped
 atMost =
     leaving
     (λ m r n.
-    cond (eqb (kind r) 1 && not (decision (m .timer) (gapsOf r) .«wrap_detected») && leb (m .timer .counter .value) (atC (m .timer .counter) (gapsOf r) .value))
+    cond (eqb (kind r) 1 && not (decision (m .timer) (gapsOf r) .«wrap_detected») && leb (m .timer .counter .value) (readings (m .timer) (gapsOf r) .value))
     (further n (n .timer .counter .period))
     n)
 

@@ -2,24 +2,23 @@
 -- accepted with what answer, and 01's counter, and who never looks at what the machine keeps.
 use Prim.Native.Nat.{ℕ, _+_, _<_, _≤_}
 use mathlib.Core.Path.{_≡_}
-use mathlib.Core.Bool.{Bool, true, false, cond}
+use mathlib.Core.Bool.{cond}
 use mathlib.Core.List.{List, [], _∷_}
 use Rattle.counter.specs.Cycle.{fresh, wraps}
 use Rattle.clock.specs.declared.Gaps.{Gaps}
+use Rattle.clock.specs.Sample.{wholeOf}
 use Rattle.books.specs.declared.Operation.{Operation}
 use Rattle.books.specs.declared.Operation.the-variants as O
-use Rattle.ledger.specs.Run.{Threads, noneRan, begins, operated, answeredAfter}
+use Rattle.ledger.specs.Threads.{Threads, noneRan, begins, operated, answeredAfter}
 use Rattle.trace.specs.declared.Record.{Record}
 use Rattle.trace.specs.declared.Record.the-variants as K
 use Rattle.trace.specs.declared.Decoded.{Decoded}
 use Rattle.trace.specs.declared.Decoded.the-variants as D
-use Rattle.machine.specs.declared.Machine.{Machine}
-use Rattle.machine.specs.declared.Stepped.{Stepped}
-use Rattle.table.specs.declared.Reason.{Reason}
-use Rattle.table.specs.declared.Reason.the-variants as Why
 use Rattle.table.specs.declared.Outcome.{Outcome}
 use Rattle.table.specs.declared.Outcome.the-variants as Told
-use Rattle.machine.specs.Step.{freshMachine}
+use Rattle.machine.specs.declared.Machine.{Machine}
+use Rattle.machine.specs.declared.Stepped.{Stepped}
+use Rattle.machine.specs.Step.{afterTouch, freshMachine}
 
 -- what a record lets happen: cycles run, so many ticks announced, a sample, or a sample with an operation that answered so
 -- many cycles
@@ -30,6 +29,7 @@ pub data Does : Type 0 where
   samples : Gaps → Does
   operates : Operation → Gaps → ℕ → Does
 
+-- read off the record itself, not off what the machine takes it for
 abbrev pub doesOf : Record → ℕ → Does
 doesOf (K.Run p) x = runs p
 doesOf (K.Sample g) x = samples g
@@ -50,19 +50,6 @@ sampleOnly (tell n) = tell n
 sampleOnly (samples g) = samples g
 sampleOnly (operates op g x) = samples g
 
--- a sum or window that won't fit is refused after the touch; every other refusal comes before it
-unfoldable pub afterTouch : Reason → Bool
-afterTouch Why.Malformed = false
-afterTouch Why.BadRecord = false
-afterTouch Why.NotSetUp = false
-afterTouch Why.SecondSetup = false
-afterTouch Why.NoThread = false
-afterTouch Why.Running = false
-afterTouch Why.AnnounceFirst = false
-afterTouch Why.CyclesAbove = false
-afterTouch (Why.NotAnnounced leafs) = false
-afterTouch Why.WontFit = true
-
 unfoldable pub happened : Decoded → Outcome → Does
 happened (D.Accepted r) (Told.Accepted values) = doesOf r (values .x)
 happened (D.Accepted r) (Told.Refused why) = cond (afterTouch why) (sampleOnly (doesOf r 0)) nothing
@@ -81,10 +68,7 @@ pub record Watched : Type 0 where
   pub before : ℕ
   pub since : ℕ
 
--- all that a sample runs, r too where no D follows, and the cycles run by its C
-abbrev pub wholeOf : Gaps → ℕ
-wholeOf g = g .p + g .q + g .r
-
+-- the cycles run by a sample's C
 abbrev pub timeC : ℕ → Gaps → ℕ
 timeC ran g = ran + (g .p + g .q)
 
@@ -107,11 +91,22 @@ seen (operates op g x) m w = record {
 abbrev pub wrapsBy : ℕ → ℕ → ℕ
 wrapsBy period cycles = wraps cycles (fresh period)
 
--- A sample takes less than a period; at most one wrap since the last C; where there was one, none from C to D.
+-- A sample takes less than a period;
+abbrev pub Quick : ℕ → Gaps → Type 0
+Quick period g = g .p + g .q < period
+
+-- at most one wrap since the last C;
+abbrev pub OneWrap : ℕ → ℕ → ℕ → Gaps → Type 0
+OneWrap period ran atC g = wrapsBy period (timeC ran g) ≤ wrapsBy period atC + 1
+
+-- and where there was one, none from C to D.
+abbrev pub NoneToD : ℕ → ℕ → ℕ → Gaps → Type 0
+NoneToD period ran atC g = wrapsBy period atC < wrapsBy period (timeC ran g) → wrapsBy period (ran + wholeOf g) ≡ wrapsBy period (timeC ran g)
+
 pub record FairSample (period ran atC : ℕ) (g : Gaps) : Type 0 where
-  pub quick : g .p + g .q < period
-  pub one-wrap : wrapsBy period (timeC ran g) ≤ wrapsBy period atC + 1
-  pub none-to-D : wrapsBy period atC < wrapsBy period (timeC ran g) → wrapsBy period (ran + wholeOf g) ≡ wrapsBy period (timeC ran g)
+  pub quick : Quick period g
+  pub one-wrap : OneWrap period ran atC g
+  pub none-to-D : NoneToD period ran atC g
 
 abbrev pub Fair : ℕ → ℕ → ℕ → Does → Type 0
 Fair period ran atC nothing = Unit {0}

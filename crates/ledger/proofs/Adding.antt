@@ -8,8 +8,21 @@ use lib.Dec.{eqb}
 use borrow.Author.Tests.{eqb-true, eqb-false}
 use Rattle.error.specs.Numbers.{max64}
 use Rattle.books.specs.Stamp.{stampOf}
-use Rattle.ledger.specs.Sums.{Stretch, sumOf, chainOf, firstOf, trueCycles, measured, multiple, off, edge, Short, AllShort, ChainShort, Ordered, ChainOrdered, Within}
-use Rattle.ledger.specs.Holds.{StampsNear}
+use Rattle.ledger.specs.Sums.{Stretch, sumOf, firstOf, trueCycles, measured, multiple, edge, Short, AllShort, ChainShort, Within, StampsNear, TotalNear, ChainNear}
+use Rattle.ledger.proofs.Holds.{chainOf}
+
+-- what a stamp is more than the low bits of its time
+unfoldable pub off : ℕ → ℕ
+off time = cond (multiple time) 1 0
+
+-- no time falls: every stretch ends when it began or later, and so do those of a chain
+abbrev pub Ordered : List Stretch → Type 0
+Ordered [] = Unit {0}
+Ordered (s ∷ rest) = (s .from ≤ s .to) × Ordered rest
+
+abbrev pub ChainOrdered : ℕ → List ℕ → Type 0
+ChainOrdered time [] = Unit {0}
+ChainOrdered time (t ∷ rest) = (t ≤ time) × ChainOrdered t rest
 
 -- a stamp is 1 where the low bits are 0, and otherwise the low bits
 data Low (time stamp less : ℕ) : Type 0 where
@@ -108,10 +121,10 @@ edge-ends from to = by-test (multiple from) (multiple to)
     by-test false false = (omega arith, omega arith)
 
 -- the 32-bit stamps
-pub stamp-sums : (i : ℕ) (closed : List Stretch) → Ordered closed → AllShort i closed → Within (sumOf measured i closed) (sumOf trueCycles i closed) (sumOf edge i closed)
+pub stamp-sums : (i : ℕ) (closed : List Stretch) → Ordered closed → TotalNear i (sumOf measured i closed) closed
 stamp-sums = sums-within measured off stamps-off edge edge-ends
 
-pub stamp-chain : (time : ℕ) (times : List ℕ) → ChainOrdered time times → ChainShort time times → Within (chainOf measured time times) (trueCycles (firstOf time times) time) (edge (firstOf time times) time)
+pub stamp-chain : (time : ℕ) (times : List ℕ) → ChainOrdered time times → ChainNear (chainOf measured time times) time times
 stamp-chain = chain-within measured off stamps-off edge edge-ends
 
 -- a measure with no error at all: the sums are the true ones

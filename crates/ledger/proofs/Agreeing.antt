@@ -1,5 +1,5 @@
 -- The ledger's fields agree with what an onlooker keeps: carried along every run.
-use Prim.Native.Nat.{ℕ, zero, suc, _+_, _-_, _%_, _^_, _<_}
+use Prim.Native.Nat.{ℕ, zero, suc, _+_, _%_, _^_, _<_}
 use mathlib.Core.Path.{_≡_, refl, sym, ap, _∙_, subst}
 use mathlib.Core.Bool.{Bool, true, false, cond, not, _&&_}
 use mathlib.Core.List.{List, [], _∷_}
@@ -20,21 +20,22 @@ use Rattle.books.specs.declared.Entry.{Entry}
 use Rattle.books.specs.declared.Operation.{Operation}
 use Rattle.books.specs.declared.Operation.the-variants as O
 use Rattle.books.specs.Stamp.{stampOf}
-use Rattle.books.specs.Entries.{stopped, runs, enterOf}
+use Rattle.books.specs.Entries.{stopped, runs, openCycles, enterOf}
 use Rattle.books.specs.Enter.{unrecorded, past, busy, concerned}
 use Rattle.books.specs.Laws.{closes, flagAfter, stampAfter, runningAfter, EntryIs}
 use Rattle.books.proofs.Entering.{entry-is}
 use Rattle.ledger.specs.declared.Answer.the-variants as A
 use Rattle.ledger.specs.declared.Ledgered.{Ledgered}
 use Rattle.ledger.specs.Operate.{recordOf, refusedWith, operateTests, operateOf}
-use Rattle.ledger.specs.Sums.{sumOf, allOf, chainOf, measured}
-use Rattle.ledger.specs.Run.{World, Event, Open, none, since, begin, isNone, isOf, closesNow, begins, openAfter, trackedAfter, shut, afterAnswer, step, after}
-use Rattle.ledger.specs.Holds.{Marked, EveryRun}
+use Rattle.ledger.specs.Sums.{sumOf, measured}
+use Rattle.ledger.specs.Threads.{Open, none, since, isNone, isOf, closesNow, begins, openAfter, trackedAfter, shut}
+use Rattle.ledger.proofs.Run.{World, Event, begin, afterAnswer, step, after}
+use Rattle.ledger.proofs.Holds.{Marked, Follows, allOf, chainOf, Agrees, EveryRun}
 use Rattle.ledger.proofs.Operating.{within}
 use Rattle.ledger.proofs.Adding.{stamp-sums, stamp-chain}
 use Rattle.ledger.proofs.Timing.{in-time}
 use Rattle.ledger.proofs.Operated.{stored-by}
-use Rattle.ledger.proofs.Refusing.{never-invalid, report-never-invalid}
+use Rattle.ledger.proofs.Refusing.{never-invalid}
 
 -- a record stored at k, and every other as it was, in a table of any length
 pub stored : (ts : List ThreadUsage) (k j : ℕ) (v : ThreadUsage) → k < length ts → getD (set ts k v) j newIdle ≡ cond (eqb k j) v (getD ts j newIdle)
@@ -63,24 +64,10 @@ unfolding runs
 marked-of slots b none m i = simp (eq-eqb _ _ m)
 marked-of slots b (since j from) m i = simp (ne-eqb (b .stamp) 0 (λ z. stamped from (sym (m .0) ∙ z)), m .1)
 
-marked-recorded : (slots : ℕ) (b : Books) (o : Open) → Marked slots b o → unrecorded b slots ≡ false
+pub marked-recorded : (slots : ℕ) (b : Books) (o : Open) → Marked slots b o → unrecorded b slots ≡ false
 unfolding unrecorded
 marked-recorded slots b none m = simp (eq-eqb _ _ m)
 marked-recorded slots b (since j from) m = simp (ne-eqb (b .stamp) 0 (λ z. stamped from (sym (m .0) ∙ z)), m .1, lt-leb _ _ (m .2))
-
--- an open stretch began at the last closing or opening
-Follows : Open → ℕ → Type 0
-Follows none last = Unit {0}
-Follows (since i from) last = from ≡ last
-
-record Kept (slots : ℕ) (w : World) : Type 0 where
-  size : length (w .ledger .threads) ≡ slots
-  mark : Marked slots (w .ledger .books) (w .threads .stretch)
-  flags : (i : ℕ) → recordOf (w .ledger) i .«track_usage» ≡ w .threads .tracked i
-  totals : (i : ℕ) → recordOf (w .ledger) i .«total_cycles» .0 ≡ sumOf measured i (w .threads .closed)
-  machine : w .ledger .books .total .0 ≡ allOf measured (w .threads .closed)
-  chain : w .answered ≡ chainOf measured (w .threads .last) (w .threads .times)
-  follows : Follows (w .threads .stretch) (w .threads .last)
 
 -- what the open stretch measures when it is closed at a time, and to whom it is charged
 added : Open → ℕ → ℕ
@@ -105,12 +92,12 @@ sum-after w time j (since i from) true = refl
 sum-after w time j o false = sym (add-zero _)
 
 -- the clock's stamp against the open stretch's
-cycles-are : (slots : ℕ) (b : Books) (o : Open) (time : ℕ) → Marked slots b o → isNone o ≡ false → elapsedCycles (stampOf time) (b .stamp) ≡ added o time
+cycles-are : (slots : ℕ) (b : Books) (o : Open) (time : ℕ) → Marked slots b o → isNone o ≡ false → openCycles b (stampOf time) ≡ added o time
 unfolding added
 cycles-are slots b none time m e = clash (cc)
 cycles-are slots b (since i from) time m e = ap (elapsedCycles (stampOf time)) (m .0)
 
-module _ (slots : ℕ) (w : World) (k : Kept slots w) where
+module _ (slots : ℕ) (w : World) (k : Agrees slots w) where
   abbrev b : Books
   b = w .ledger .books
 
@@ -293,7 +280,7 @@ module _ (slots : ℕ) (w : World) (k : Kept slots w) where
       by-test true = refl
       by-test false = k .follows
 
-step-keeps : (slots : ℕ) → 0 < slots → (ev : Event) (w : World) → Kept slots w → Kept slots (step ev w)
+step-keeps : (slots : ℕ) → 0 < slots → (ev : Event) (w : World) → Agrees slots w → Agrees slots (step ev w)
 unfolding step operateOf
 step-keeps slots some ev w k =
     by-outcome (refusedWith (w .ledger)) _ P (operateTests (w .ledger) (ev .operation)) unchanged
@@ -304,7 +291,7 @@ step-keeps slots some ev w k =
     (λ e p. accepted e (entry-is _ _ _ _ e p) (rw (k .size) at (tests .0)) (rw (k .size) at (tests .1 .0)) (tests .1 .1 .0)))
   where
     P : Ledgered → Type 0
-    P o = Kept slots (afterAnswer w ev (o .ledger) (o .answer))
+    P o = Agrees slots (afterAnswer w ev (o .ledger) (o .answer))
 
     unchanged : (why : Refusal) → P (refusedWith (w .ledger) why)
     unchanged why = record { size = k .size; mark = k .mark; flags = k .flags; totals = k .totals; machine = k .machine; chain = k .chain; follows = k .follows }
@@ -322,7 +309,7 @@ step-keeps slots some ev w k =
           follows = follows-after slots w k (ev .operation) (ev .time);
         }
 
-keeps : (slots : ℕ) → 0 < slots → (es : List Event) (w : World) → Kept slots w → Kept slots (after es w)
+keeps : (slots : ℕ) → 0 < slots → (es : List Event) (w : World) → Agrees slots w → Agrees slots (after es w)
 unfolding after
 keeps slots some [] w k = k
 keeps slots some (e ∷ es) w k = keeps slots some es (step e w) (step-keeps slots some e w k)
@@ -333,7 +320,7 @@ idle-at zero i = refl
 idle-at (suc n) zero = refl
 idle-at (suc n) (suc i) = idle-at n i
 
-at-begin : (slots : ℕ) → Kept slots (begin slots)
+at-begin : (slots : ℕ) → Agrees slots (begin slots)
 unfolding sumOf allOf chainOf Follows
 at-begin slots = record {
   size = length-replicate slots newIdle;
@@ -349,15 +336,8 @@ pub every-run : EveryRun
 every-run slots some es =
     let w = after es (begin slots) in
     let k = keeps slots some es (begin slots) (at-begin slots) in (
-      record {
-        mark = k .mark;
-        flags = k .flags;
-        totals = k .totals;
-        machine = k .machine;
-        chain = k .chain;
-        never-invalid = never-invalid (w .ledger) (recorded w k);
-        report-never-invalid = report-never-invalid (w .ledger) (recorded w k);
-      },
+      k,
+      never-invalid (w .ledger) (rw (k .size) (marked-recorded slots (w .ledger .books) (w .threads .stretch) (k .mark))),
       λ time timely.
           let order = in-time slots es time timely in
           record {
@@ -365,6 +345,3 @@ every-run slots some es =
             chain = λ short. rw (k .chain) (stamp-chain (w .threads .last) (w .threads .times) (order .chain) short);
           },
     )
-  where
-    recorded : (w : World) → Kept slots w → unrecorded (w .ledger .books) (length (w .ledger .threads)) ≡ false
-    recorded w k = rw (k .size) (marked-recorded slots (w .ledger .books) (w .threads .stretch) (k .mark))

@@ -9,18 +9,18 @@ use borrow.Author.Tests.{eq-eqb, le-ltb}
 use Rattle.error.proofs.Tests.{clash}
 use Rattle.error.specs.Numbers.{max64}
 use Rattle.usage.specs.declared.ThreadUsage.{ThreadUsage}
-use Rattle.usage.specs.Leaves.{elapsedCycles}
 use Rattle.books.specs.declared.Books.{Books}
 use Rattle.books.specs.declared.Operation.{Operation}
 use Rattle.books.specs.declared.Operation.the-variants as O
 use Rattle.books.specs.Stamp.{stampOf}
-use Rattle.books.specs.Entries.{stopped, runs}
+use Rattle.books.specs.Entries.{stopped, runs, openCycles}
 use Rattle.books.specs.Enter.{concerned}
 use Rattle.books.specs.Laws.{closes, tooMany}
-use Rattle.ledger.specs.Operate.{recordOf}
-use Rattle.ledger.specs.Sums.{Stretch, sumOf, allOf, measured}
-use Rattle.ledger.specs.Run.{World, Event, Open, none, since, begin, after}
-use Rattle.ledger.specs.Holds.{Marked, SumsFit}
+use Rattle.ledger.specs.Operate.{usageOf}
+use Rattle.ledger.specs.Sums.{Stretch, sumOf, measured}
+use Rattle.ledger.specs.Threads.{Open, none, since}
+use Rattle.ledger.proofs.Run.{World, Event, begin, after}
+use Rattle.ledger.proofs.Holds.{Marked, allOf, SumsFit}
 use Rattle.ledger.proofs.Adding.{stamps-most, off-fits}
 use Rattle.ledger.proofs.Timing.{Spent, in-time}
 use Rattle.ledger.proofs.Agreeing.{every-run}
@@ -64,10 +64,10 @@ module _ (slots : ℕ) (some : 0 < slots) (es : List Event) (time : ℕ) (fits :
   b = w .ledger .books
 
   abbrev u : ThreadUsage
-  u = recordOf (w .ledger) (concerned b op)
+  u = usageOf (w .ledger) op
 
   -- the open stretch, closed now, and all that was measured before it
-  at-open : (o : Open) → Marked slots b o → stopped b ≡ false → Spent (w .threads .closed) time o → allOf measured (w .threads .closed) + elapsedCycles (stampOf time) (b .stamp) ≤ max64
+  at-open : (o : Open) → Marked slots b o → stopped b ≡ false → Spent (w .threads .closed) time o → allOf measured (w .threads .closed) + openCycles b (stampOf time) ≤ max64
   at-open none mark t spent = let q = eq-eqb (b .stamp) 0 mark in clash (cc)
   at-open (since i from) mark t spent =
       let a = spent .0 in
@@ -76,7 +76,7 @@ module _ (slots : ℕ) (some : 0 < slots) (es : List Event) (time : ℕ) (fits :
       let f = off-fits time fits in
       rw (mark .0) (omega arith)
 
-  by-closing : (c : Bool) → closes b u op ≡ c → Spent (w .threads .closed) time (w .threads .stretch) → c && tooMany b u (elapsedCycles (stampOf time) (b .stamp)) ≡ false
+  by-closing : (c : Bool) → closes b u op ≡ c → Spent (w .threads .closed) time (w .threads .stretch) → c && tooMany b u (openCycles b (stampOf time)) ≡ false
   unfolding tooMany
   by-closing false e spent = refl
   by-closing true e spent =
@@ -85,7 +85,7 @@ module _ (slots : ℕ) (some : 0 < slots) (es : List Event) (time : ℕ) (fits :
       let own = part (concerned b op) (w .threads .closed) in
       let m = agrees .machine in
       let t = agrees .totals (concerned b op) in
-      neither (b .total .0 + elapsedCycles (stampOf time) (b .stamp)) (u .«total_cycles» .0 + elapsedCycles (stampOf time) (b .stamp)) (u .«track_usage») (omega arith) (omega arith)
+      neither (b .total .0 + openCycles b (stampOf time)) (u .«total_cycles» .0 + openCycles b (stampOf time)) (u .«track_usage») (omega arith) (omega arith)
 
 pub sums-fit : SumsFit
 sums-fit slots some es time timely fits op = by-closing slots some es time fits op _ refl (in-time slots es time timely .spent)

@@ -1,4 +1,6 @@
 pub mod Operating
+pub mod Run
+pub mod Holds
 pub mod Adding
 pub mod Operated
 pub mod Refusing

@@ -1,39 +1,34 @@
 -- Each outcome of an operation on the whole ledger, over a table of any number of slots.
-use Prim.Native.Nat.{ℕ, _≤_, _<_}
+use Prim.Native.Nat.{ℕ, _<_}
 use mathlib.Core.Path.{_≡_, sym, ap, _∙_}
 use mathlib.Core.Bool.{Bool, true, false, cond, not, _&&_}
-use mathlib.Core.List.{List, map}
-use lib.ListN.{length, length-map}
-use lib.Dec.{leb, eqb}
-use borrow.Author.Tests.{leb-false, le-leb, lt-leb}
+use lib.ListN.{length}
+use lib.Dec.{eqb}
+use borrow.Author.Tests.{leb-false}
 use Rattle.error.specs.declared.Refusal.{Refusal}
 use Rattle.error.specs.declared.Refusal.the-variants.{Invalid, BadThread, Already}
 use Rattle.units.specs.declared.Cycles.{Cycles}
-use Rattle.usage.specs.Leaves.{averageCycles}
 use Rattle.books.specs.declared.Books.{Books}
 use Rattle.books.specs.declared.Entry.{Entry}
 use Rattle.books.specs.declared.Entered.{Entered}
 use Rattle.books.specs.declared.Entered.the-variants as E
 use Rattle.books.specs.declared.Operation.{Operation}
 use Rattle.books.specs.declared.Operation.the-variants as O
-use Rattle.books.specs.Enter.{unrecorded, past, busy, entryOf, concerned}
+use Rattle.books.specs.Enter.{noThread, unrecorded, past, busy, entryOf, concerned}
 use Rattle.books.specs.Says.{enteredWhy}
 use Rattle.books.proofs.Outcomes.{entry-free}
 use Rattle.ledger.specs.declared.Ledger.{Ledger}
 use Rattle.ledger.specs.declared.Ledgered.{Ledgered}
+use Rattle.ledger.specs.declared.ThreadReport.{ThreadReport}
 use Rattle.ledger.specs.declared.Reported.the-variants as R
-use Rattle.ledger.specs.Operate.{recordOf, refusedWith, storedIn, operateOf, reportOf}
-
--- what owning an array tells of its list: its length
-pub counted : {A B : Type 0} (l : List A) (f : A → B) (n : ℕ) → length (map f l) ≡ n → length l ≡ n
-counted l f n e = sym (length-map l f) ∙ e
+use Rattle.ledger.specs.Operate.{recordOf, refusedWith, storedIn, operateOf, reportValue, reportOf}
 
 -- the thread that goes is in the table where it has a record
 going-within : (b : Books) (slots i : ℕ) → unrecorded b slots ≡ false → i < slots → cond (eqb (b .stamp) 0) i (b .running) < slots
 unfolding unrecorded
 going-within b slots i e h = by-test (eqb (b .stamp) 0) e
   where
-    by-test : (stopped : Bool) → not stopped && leb slots (b .running) ≡ false → cond stopped i (b .running) < slots
+    by-test : (stopped : Bool) → not stopped && noThread slots (b .running) ≡ false → cond stopped i (b .running) < slots
     by-test true q = h
     by-test false q = leb-false _ _ q
 
@@ -62,7 +57,7 @@ module _ (l : Ledger) (reading : Cycles) (op : Operation) {slots : ℕ} (n : len
       under-way e = simp (n, recorded, named, e)
 
       module _ (free : busy (l .books) op ≡ false) {k : ℕ} {x : Entered} (ek : k ≡ concerned (l .books) op) (ex : x ≡ entryOf (l .books) (recordOf l k) reading op) where
-        storing : operateOf l reading op ≡ storedIn l k x
+        pub storing : operateOf l reading op ≡ storedIn l k x
         unfolding operateOf
         storing = simp (n, recorded, named, free, ex ∙ entry-free (l .books) (recordOf l k) reading op free, ek)
 
@@ -78,10 +73,10 @@ module _ (l : Ledger) (i : ℕ) {slots : ℕ} (n : length (l .threads) ≡ slots
   unfolding reportOf
   report-unrecorded e = simp (n, e)
 
-  pub report-past : unrecorded (l .books) slots ≡ false → slots ≤ i → R.Refused BadThread ≡ reportOf l i
+  pub report-past : unrecorded (l .books) slots ≡ false → noThread slots i ≡ true → R.Refused BadThread ≡ reportOf l i
   unfolding reportOf
-  report-past e h = simp (n, e, le-leb _ _ h)
+  report-past e past = simp (n, e, past)
 
-  pub reported : {average : Cycles} → unrecorded (l .books) slots ≡ false → i < slots → average ≡ averageCycles (recordOf l i .«total_cycles») (recordOf l i .«num_windows») → R.Accepted (record { total = recordOf l i .«total_cycles»; average = average }) ≡ reportOf l i
+  pub reported : {report : ThreadReport} → unrecorded (l .books) slots ≡ false → noThread slots i ≡ false → report ≡ reportValue (recordOf l i) → R.Accepted report ≡ reportOf l i
   unfolding reportOf
-  reported e h a = simp (n, e, lt-leb _ _ h, a)
+  reported e named is = simp (n, e, named, is)

@@ -9,10 +9,11 @@ use Rattle.ledger.specs.declared.Answer.{Answer}
 use Rattle.ledger.specs.declared.Answer.the-variants as A
 use Rattle.ledger.specs.declared.Ledger.{Ledger}
 use Rattle.ledger.specs.Operate.{operateOf}
-use Rattle.ledger.specs.Sums.{Stretch, allOf, measured, off, Ordered, ChainOrdered}
-use Rattle.ledger.specs.Run.{World, Event, Threads, Open, none, since, begin, closesNow, begins, openAfter, shut, operated, afterAnswer, step, after}
-use Rattle.ledger.specs.Holds.{Timely}
-use Rattle.ledger.proofs.Adding.{stamps-most, later-off}
+use Rattle.ledger.specs.Sums.{Stretch, measured}
+use Rattle.ledger.specs.Threads.{Threads, Open, none, since, closesNow, begins, openAfter, shut, operated}
+use Rattle.ledger.proofs.Run.{World, Event, begin, afterAnswer, step, after}
+use Rattle.ledger.proofs.Holds.{allOf, Timely}
+use Rattle.ledger.proofs.Adding.{off, Ordered, ChainOrdered, stamps-most, later-off}
 
 -- all that was measured, by now: no more than the time at which the open stretch began, or none runs and no more than now
 abbrev pub Spent : List Stretch → ℕ → Open → Type 0

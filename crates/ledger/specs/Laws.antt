@@ -1,26 +1,25 @@
 -- The laws of every operation on the whole ledger: what it does to the books and to each record, and exactly when it is refused.
 use Prim.Native.Nat.{ℕ, _<_}
 use mathlib.Core.Path.{_≡_}
-use mathlib.Core.List.{List, [], _∷_}
+use mathlib.Core.List.{List, _++_}
 use lib.ListN.{length}
 use Rattle.error.specs.declared.Refusal.{Refusal}
-use Rattle.error.specs.declared.Refusal.the-variants.{Invalid, BadThread, Already, Overflow}
 use Rattle.error.specs.Numbers.{ok, numberOf}
 use Rattle.error.specs.InOrder.{Row, inOrder}
 use Rattle.units.specs.declared.Cycles.{Cycles}
 use Rattle.books.specs.declared.Operation.{Operation}
 use Rattle.books.specs.Stamp.{stampOf}
-use Rattle.books.specs.Enter.{unrecorded, past, busy, concerned}
-use Rattle.books.specs.Laws.{EntryIs, full}
+use Rattle.books.specs.Enter.{concerned}
+use Rattle.books.specs.Laws.{EntryIs, fullTests}
 use Rattle.ledger.specs.declared.Ledger.{Ledger}
 use Rattle.ledger.specs.declared.Answer.{Answer}
 use Rattle.ledger.specs.declared.Answer.the-variants as A
-use Rattle.ledger.specs.Operate.{recordOf, operateOf}
+use Rattle.ledger.specs.Operate.{recordOf, usageOf, operateTests, operateOf}
 use Rattle.ledger.specs.Says.{answerSays}
 
 -- the whole ledger: the record concerned is as its entry says, and every other stays
 pub record Operated (l : Ledger) (reading : Cycles) (op : Operation) (cycles : ℕ) (next : Ledger) : Type 0 where
-  pub entry : EntryIs (l .books) (recordOf l (concerned (l .books) op)) (stampOf (reading .0)) op (record { cycles = cycles; books = next .books; usage = recordOf next (concerned (l .books) op) })
+  pub entry : EntryIs (l .books) (usageOf l op) (stampOf (reading .0)) op (record { cycles = cycles; books = next .books; usage = recordOf next (concerned (l .books) op) })
   pub others : (i : ℕ) → (concerned (l .books) op ≡ i → ⊥) → recordOf next i ≡ recordOf l i
   pub slots : length (next .threads) ≡ length (l .threads)
 
@@ -34,12 +33,7 @@ EveryOperation = (l : Ledger) (reading : Cycles) (op : Operation) → 0 < length
 
 -- Each refusal, exactly: 01's tests, and then a sum or a count of windows that would not fit.
 abbrev pub operateRows : Ledger → Cycles → Operation → List (Row Refusal)
-operateRows l reading op =
-    (unrecorded (l .books) (length (l .threads)), Invalid) ∷
-    (past op (length (l .threads)), BadThread) ∷
-    (busy (l .books) op, Already) ∷
-    (full (l .books) (recordOf l (concerned (l .books) op)) (stampOf (reading .0)) op, Overflow) ∷
-    []
+operateRows l reading op = operateTests l op ++ fullTests (l .books) (usageOf l op) (stampOf (reading .0)) op
 
 -- an operation's number is that of the first row whose test holds, and 0 where none does
 abbrev pub EveryRefusal : Type 0

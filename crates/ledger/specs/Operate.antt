@@ -1,10 +1,10 @@
--- An operation on the whole ledger: 01's tests in order, then its entry, over the record that it concerns.
+-- An operation on the whole ledger, and a report of a thread: 01's tests in order, then the entry over the record concerned, or what that record tells.
 use Prim.Native.Nat.{ℕ}
-use mathlib.Core.List.{List, [], _∷_}
+use mathlib.Core.Bool.{Bool}
+use mathlib.Core.List.{List, [], _∷_, _++_}
 use lib.ListN.{length, getD, set, replicate}
-use lib.Dec.{leb}
 use Rattle.error.specs.declared.Refusal.{Refusal}
-use Rattle.error.specs.declared.Refusal.the-variants.{Invalid, BadThread, Already}
+use Rattle.error.specs.declared.Refusal.the-variants.{Invalid, BadThread}
 use Rattle.error.specs.InOrder.{Row, inOrder}
 use Rattle.units.specs.declared.Cycles.{Cycles}
 use Rattle.usage.specs.declared.ThreadUsage.{ThreadUsage}
@@ -15,10 +15,11 @@ use Rattle.books.specs.declared.Entered.the-variants as E
 use Rattle.books.specs.declared.Operation.{Operation}
 use Rattle.books.specs.Stamp.{stampOf}
 use Rattle.books.specs.Entries.{enterOf}
-use Rattle.books.specs.Enter.{nothingBooked, unrecorded, past, busy, concerned}
+use Rattle.books.specs.Enter.{nothingBooked, noThread, unrecorded, past, entryTests, concerned}
 use Rattle.ledger.specs.declared.Ledger.{Ledger}
 use Rattle.ledger.specs.declared.Answer.the-variants as A
 use Rattle.ledger.specs.declared.Ledgered.{Ledgered}
+use Rattle.ledger.specs.declared.ThreadReport.{ThreadReport}
 use Rattle.ledger.specs.declared.Reported.{Reported}
 use Rattle.ledger.specs.declared.Reported.the-variants as R
 
@@ -28,6 +29,10 @@ freshOf slots = record { books = nothingBooked; threads = replicate slots newIdl
 
 abbrev pub recordOf : Ledger → ℕ → ThreadUsage
 recordOf l i = getD (l .threads) i newIdle
+
+-- the record that an operation concerns
+abbrev pub usageOf : Ledger → Operation → ThreadUsage
+usageOf l op = recordOf l (concerned (l .books) op)
 
 abbrev pub refusedWith : Ledger → Refusal → Ledgered
 refusedWith l why = record { answer = A.Refused why; ledger = l }
@@ -40,20 +45,25 @@ storedIn l k (E.Accepted e) = record {
 }
 storedIn l k (E.Refused why) = refusedWith l why
 
+-- the state's test comes first, whatever is asked; then whether the table has the thread
+abbrev pub tableTests : Ledger → Bool → List (Row Refusal)
+tableTests l missing = (unrecorded (l .books) (length (l .threads)), Invalid) ∷ (missing, BadThread) ∷ []
+
+-- and an operation's own
 abbrev pub operateTests : Ledger → Operation → List (Row Refusal)
-operateTests l op =
-    (unrecorded (l .books) (length (l .threads)), Invalid) ∷
-    (past op (length (l .threads)), BadThread) ∷
-    (busy (l .books) op, Already) ∷
-    []
+operateTests l op = tableTests l (past op (length (l .threads))) ++ entryTests (l .books) op
 
 unfoldable pub operateOf : Ledger → Cycles → Operation → Ledgered
 operateOf l reading op =
     inOrder (operateTests l op) (refusedWith l)
-    (storedIn l (concerned (l .books) op) (enterOf (l .books) (recordOf l (concerned (l .books) op)) (stampOf (reading .0)) op))
+    (storedIn l (concerned (l .books) op) (enterOf (l .books) (usageOf l op) (stampOf (reading .0)) op))
 
 -- Report: total, average.
+abbrev pub reportValue : ThreadUsage → ThreadReport
+reportValue u = record { total = u .«total_cycles»; average = averageCycles (u .«total_cycles») (u .«num_windows») }
+
+abbrev pub reportTests : Ledger → ℕ → List (Row Refusal)
+reportTests l i = tableTests l (noThread (length (l .threads)) i)
+
 unfoldable pub reportOf : Ledger → ℕ → Reported
-reportOf l i =
-    inOrder ((unrecorded (l .books) (length (l .threads)), Invalid) ∷ (leb (length (l .threads)) i, BadThread) ∷ []) R.Refused
-    (R.Accepted (record { total = recordOf l i .«total_cycles»; average = averageCycles (recordOf l i .«total_cycles») (recordOf l i .«num_windows») }))
+reportOf l i = inOrder (reportTests l i) R.Refused (R.Accepted (reportValue (recordOf l i)))

@@ -14,14 +14,10 @@ pub record Stretch : Type 0 where
   pub from : ℕ
   pub to : ℕ
 
--- the sum of some measure over a thread's tracked stretches, and over all stretches
+-- the sum of some measure over a thread's tracked stretches
 unfoldable pub sumOf : (ℕ → ℕ → ℕ) → ℕ → List Stretch → ℕ
 sumOf measure i [] = 0
 sumOf measure i (s ∷ rest) = sumOf measure i rest + cond (s .tracked && eqb (s .thread) i) (measure (s .from) (s .to)) 0
-
-unfoldable pub allOf : (ℕ → ℕ → ℕ) → List Stretch → ℕ
-allOf measure [] = 0
-allOf measure (s ∷ rest) = allOf measure rest + measure (s .from) (s .to)
 
 -- the cycles that truly ran
 abbrev pub trueCycles : ℕ → ℕ → ℕ
@@ -34,9 +30,6 @@ measured from to = elapsedCycles (stampOf to) (stampOf from)
 -- the stamp of a multiple of 2^32 is one more than its low bits
 abbrev pub multiple : ℕ → Bool
 multiple time = eqb (time % 2 ^ 32) 0
-
-unfoldable pub off : ℕ → ℕ
-off time = cond (multiple time) 1 0
 
 -- a stretch that begins or ends on a multiple of 2^32
 abbrev pub edge : ℕ → ℕ → ℕ
@@ -52,10 +45,6 @@ AllShort i [] = Unit {0}
 AllShort i (s ∷ rest) = (s .tracked && eqb (s .thread) i ≡ true → Short (s .from) (s .to)) × AllShort i rest
 
 -- the stretches of one start to its stop, by their times, the last first
-unfoldable pub chainOf : (ℕ → ℕ → ℕ) → ℕ → List ℕ → ℕ
-chainOf measure time [] = 0
-chainOf measure time (t ∷ rest) = chainOf measure t rest + measure t time
-
 abbrev pub firstOf : ℕ → List ℕ → ℕ
 firstOf time [] = time
 firstOf time (t ∷ rest) = firstOf t rest
@@ -64,16 +53,21 @@ abbrev pub ChainShort : ℕ → List ℕ → Type 0
 ChainShort time [] = Unit {0}
 ChainShort time (t ∷ rest) = Short t time × ChainShort t rest
 
--- no time falls: every stretch ends when it began or later, and so do those of a chain
-abbrev pub Ordered : List Stretch → Type 0
-Ordered [] = Unit {0}
-Ordered (s ∷ rest) = (s .from ≤ s .to) × Ordered rest
-
-abbrev pub ChainOrdered : ℕ → List ℕ → Type 0
-ChainOrdered time [] = Unit {0}
-ChainOrdered time (t ∷ rest) = (t ≤ time) × ChainOrdered t rest
-
 -- two numbers differ by at most a third
 pub record Within (a b most : ℕ) : Type 0 where
   pub low : a ≤ b + most
   pub high : b ≤ a + most
+
+-- one stretch: measured less true is -1, 0 or 1, and 0 unless it begins or ends on a multiple of 2^32
+abbrev pub StampsNear : Type 0
+StampsNear = (from to : ℕ) → from ≤ to → Short from to → Within (measured from to) (trueCycles from to) (edge from to)
+
+-- a thread's total misses its true tracked cycles by at most one for each of its stretches that begins or ends on a multiple
+-- of 2^32, where none is longer than 2^32 - 2 cycles
+abbrev pub TotalNear : ℕ → ℕ → List Stretch → Type 0
+TotalNear i total closed = AllShort i closed → Within total (sumOf trueCycles i closed) (sumOf edge i closed)
+
+-- all stretches since one start, summed, miss by at most one, and by none unless the first begins or the last ends on such a
+-- multiple, where none is longer
+abbrev pub ChainNear : ℕ → ℕ → List ℕ → Type 0
+ChainNear sum last times = ChainShort last times → Within sum (trueCycles (firstOf last times) last) (edge (firstOf last times) last)

@@ -1,6 +1,6 @@
 // 01's ledger: the books and a table of thread records, an operation on them, and what they tell of a thread.
 ghost use mathlib.Core.Path.{_≡_};
-ghost use Rattle.ledger.specs.Operate.{freshOf, refusedWith, operateOf, reportOf};
+ghost use Rattle.ledger.specs.Operate.{freshOf, refusedWith, operateOf, reportValue, reportOf};
 ghost use Rattle.ledger.specs.Says.{answerSays, reportedSays};
 use books::Books;
 use books::Entered;
@@ -28,6 +28,19 @@ pub struct Ledgered {
 pub struct ThreadReport {
     pub total: Cycles,
     pub average: Cycles,
+}
+
+impl ThreadReport {
+    // What there is to report of a thread, by its record.
+    pub fn of(usage: ThreadUsage) -> ThreadReport
+        ensures { λ r. ⌜ r ≡ reportValue usage ⌝ }
+    {
+        let total = usage.total_cycles;
+        ThreadReport {
+            total: total,
+            average: usage::average_cycles(total, usage.num_windows),
+        }
+    }
 }
 
 pub enum Reported {
@@ -82,16 +95,11 @@ pub fn report(ledger: Ledger, thread: u32) -> Reported
     if books::unrecorded(books, ThreadUsage::SLOTS) {
         return Reported::Refused(Refusal::Invalid);
     }
-    let k = thread as usize;
-    if ThreadUsage::SLOTS <= k {
+    if books::no_thread(ThreadUsage::SLOTS, thread) {
         return Reported::Refused(Refusal::BadThread);
     }
-    let usage = ledger.threads[k];
-    let total = usage.total_cycles;
-    Reported::Accepted(ThreadReport {
-        total: total,
-        average: usage::average_cycles(total, usage.num_windows),
-    })
+    let k = thread as usize;
+    Reported::Accepted(ThreadReport::of(ledger.threads[k]))
 }
 
 impl Answer {

@@ -1,4 +1,4 @@
--- What the private parts of a line ask of their caller, and what they leave behind.
+-- Inside: what the private parts of a line ask of their caller, and what they leave behind.
 use Prim.Native.Nat.{ℕ, _+_, _/_, _%_, _≤_, _<_}
 use mathlib.Core.Path.{_≡_}
 use mathlib.Core.List.{List, [], _∷_, _++_}

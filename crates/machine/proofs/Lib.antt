@@ -1,3 +1,9 @@
-pub mod Outcomes
+pub mod Passed
 pub mod Accepting
-pub mod Changing
+pub mod Making
+pub mod Tying
+pub mod Stepping
+pub mod InPlace
+pub mod WholeClock
+pub mod Whole
+pub mod Shown

@@ -1,3 +1,3 @@
 pub mod Step
-pub mod Accepts
-pub mod Making
+pub mod Laws
+pub mod Shown

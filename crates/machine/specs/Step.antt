@@ -1,175 +1,135 @@
--- A record's step: the malformed state, 01's table, the record's effect on counter and clock, and then the one thread record concerned.
+-- 01's machine: a record's step is 01's table. Its rows in order, what a refusal leaves, and what an accepted record answers and leaves.
 use Prim.Native.Nat.{ℕ}
-use mathlib.Core.Bool.{true, false, cond}
-use mathlib.Core.List.{List, [], _∷_}
-use lib.ListN.{length, getD, set, replicate}
-use lib.Dec.{ltb}
-use Rattle.error.specs.InOrder.{inOrder}
-use Rattle.usage.specs.declared.ThreadUsage.{ThreadUsage}
-use Rattle.usage.specs.Record.{newIdle}
-use Rattle.usage.specs.Leaves.{averageCycles}
-use Rattle.units.specs.declared.Cycles.{Cycles}
-use Rattle.counter.specs.declared.Counter.{Counter}
+use mathlib.Core.Bool.{Bool, true, false, cond}
+use mathlib.Core.List.{List, [], _∷_, _++_}
+use lib.ListN.{length}
+use Rattle.error.specs.InOrder.{Row, inOrder}
 use Rattle.counter.specs.Cycle.{runN}
+use Rattle.clock.specs.declared.Gaps.{Gaps}
 use Rattle.clock.specs.declared.Timer.{Timer}
-use Rattle.clock.specs.declared.SampleTaken.{SampleTaken}
 use Rattle.clock.specs.declared.Announced.{Announced}
 use Rattle.clock.specs.declared.Announced.the-variants as A
 use Rattle.clock.specs.Timer.{setup}
-use Rattle.clock.specs.Sample.{sampleValue}
-use Rattle.clock.specs.Announce.{announceOf}
-use Rattle.books.specs.declared.Books.{Books}
+use Rattle.clock.specs.Sample.{readingOf, sampleValue}
+use Rattle.clock.specs.Announce.{announcement, announceOf}
+use Rattle.clock.specs.Says.{noTimer}
 use Rattle.books.specs.declared.Operation.{Operation}
-use Rattle.books.specs.declared.Entered.{Entered}
-use Rattle.books.specs.declared.Entered.the-variants as E
-use Rattle.books.specs.Enter.{concerned, entryOf, nothingBooked}
-use Rattle.ledger.specs.Operate.{freshOf}
+use Rattle.books.specs.Stamp.{stampOf}
+use Rattle.books.specs.Laws.{closedCycles, full}
+use Rattle.ledger.specs.declared.ThreadReport.{ThreadReport}
+use Rattle.ledger.specs.Operate.{freshOf, recordOf, usageOf, operateOf, reportValue}
 use Rattle.trace.specs.declared.Decoded.{Decoded}
 use Rattle.trace.specs.declared.Decoded.the-variants as D
 use Rattle.table.specs.declared.Core.{Core}
-use Rattle.table.specs.declared.Values.{Values}
-use Rattle.machine.specs.declared.Begun.{Begun}
-use Rattle.machine.specs.declared.Next.{Next}
-use Rattle.machine.specs.declared.Next.the-variants as N
-use Rattle.machine.specs.declared.CoreStep.{CoreStep}
-use Rattle.machine.specs.declared.Machine.{Machine}
-use Rattle.machine.specs.declared.Stepped.{Stepped}
 use Rattle.table.specs.declared.Reason.{Reason}
 use Rattle.table.specs.declared.Reason.the-variants as Why
-use Rattle.table.specs.declared.Outcome.{Outcome}
+use Rattle.table.specs.declared.Values.{Values}
 use Rattle.table.specs.declared.Outcome.the-variants as O
 use Rattle.table.specs.declared.tasks.Task.{Task}
 use Rattle.table.specs.declared.tasks.Task.the-variants as T
-use Rattle.table.specs.declared.tasks.Then.{Then}
 use Rattle.table.specs.declared.tasks.Then.the-variants as W
 use Rattle.table.specs.Task.{taskOf, askedBy}
 use Rattle.table.specs.Table.{malformed, table}
-
--- accepted, with x and y
-abbrev pub accepted : ℕ → ℕ → Outcome
-accepted x y = O.Accepted (record { x = x; y = y })
-
--- turned away: 0 0
-abbrev pub turned : Core → Reason → Begun
-turned c why = record { next = N.Done (O.Refused why); core = c }
-
-abbrev pub withTimer : Core → Timer → Core
-withTimer c t = record { ready = c .ready; timer = t; books = c .books }
-
-abbrev pub withBooks : Core → Books → Core
-withBooks c b = record { ready = c .ready; timer = c .timer; books = b }
-
-abbrev pub toldBegun : Core → Timer → Values → Begun
-toldBegun c t values = record { next = N.Done (O.Accepted values); core = withTimer c t }
-
--- Otherwise 0 0.
-abbrev pub ranBegun : Core → Counter → Begun
-ranBegun c counter = toldBegun c (record { counter = counter; clock = c .timer .clock }) (record { x = 0; y = 0 })
-
-abbrev pub enterBegun : Core → Timer → Operation → Cycles → Begun
-enterBegun c t op reading = record { next = N.Enter op reading; core = withTimer c t }
-
--- Sample: elapsed, wrap. Kinds 3 to 7 go on at its reading.
-abbrev pub thenBegun : Core → Then → SampleTaken → Begun
-thenBegun c W.Tell taken = toldBegun c (taken .timer) (record { x = taken .elapsed; y = cond (taken .wrap) 1 0 })
-thenBegun c (W.Operate op) taken = enterBegun c (taken .timer) op (taken .reading)
-
--- Announce: dticks, announced. What the leaf refuses changes nothing.
-unfoldable pub announcedBegun : Core → Announced → Begun
-announcedBegun c (A.Accepted a) = toldBegun c (a .timer) (record { x = a .dticks .0; y = a .timer .clock .announced .0 })
-announcedBegun c (A.Refused why) = turned c (Why.NotAnnounced why)
-
-abbrev pub reportBegun : Core → ℕ → Begun
-reportBegun c i = record { next = N.Report i; core = c }
-
--- Setup writes every field.
-abbrev pub freshBegun : Timer → Begun
-freshBegun t = record { next = N.Fresh; core = record { ready = true; timer = t; books = nothingBooked } }
-
-unfoldable pub effectOf : Core → Task → Begun
-effectOf c (T.Run p) = ranBegun c (runN p (c .timer .counter))
-effectOf c (T.Sample g then) = thenBegun c then (sampleValue (c .timer) g)
-effectOf c T.Announce = announcedBegun c (announceOf (c .timer))
-effectOf c (T.Report i) = reportBegun c i
-effectOf c (T.Setup s) = freshBegun (setup (s .period) (s .tick))
-
--- 01's table, and then the effect
-unfoldable pub taskBegun : Core → ℕ → Task → Begun
-taskBegun c slots task = inOrder (table c (askedBy (c .books) slots task)) (turned c) (effectOf c task)
-
--- bytes that are no record meet the table's first row
-unfoldable pub decodedBegun : Core → ℕ → Decoded → Begun
-decodedBegun c slots (D.Accepted r) = taskBegun c slots (taskOf r)
-decodedBegun c slots (D.Refused why) = turned c Why.BadRecord
-
--- The malformed state is tested first.
-unfoldable pub beginOf : Core → ℕ → Decoded → Begun
-beginOf c slots d = inOrder ((malformed c slots, Why.Malformed) ∷ []) (turned c) (decodedBegun c slots d)
-
--- the thread whose record is concerned; the first where none is
-unfoldable pub nextThread : Books → Next → ℕ
-nextThread b (N.Done o) = 0
-nextThread b (N.Enter op reading) = concerned b op
-nextThread b (N.Report i) = i
-nextThread b N.Fresh = 0
-
--- a thread's slot in a table of so many
-unfoldable pub slotOf : ℕ → ℕ → ℕ
-slotOf i slots = cond (ltb i slots) i 0
-
-unfoldable pub placeOf : Begun → ℕ → ℕ
-placeOf s slots = slotOf (nextThread (s .core .books) (s .next)) slots
-
--- what a step leaves, but for a setup
-abbrev pub left : Core → ThreadUsage → Outcome → CoreStep
-left c u o = record { outcome = o; core = c; usage = u; fresh = false }
-
--- Kinds 3 to 7: cycles closed, 0. A sum or window count that won't fit leaves the ledger; the sample is kept.
-unfoldable pub enteredStep : Core → ThreadUsage → Entered → CoreStep
-enteredStep c u (E.Accepted e) = left (withBooks c (e .books)) (e .usage) (accepted (e .cycles) 0)
-enteredStep c u (E.Refused why) = left c u (O.Refused Why.WontFit)
-
--- Report: total, average.
-abbrev pub reportOf : ThreadUsage → Values
-reportOf u = record { x = u .«total_cycles» .0; y = averageCycles (u .«total_cycles») (u .«num_windows») .0 }
-
-abbrev pub reportStep : Core → ThreadUsage → CoreStep
-reportStep c u = left c u (O.Accepted (reportOf u))
-
--- Setup: 0 0, and every record is to be a fresh one.
-abbrev pub freshStep : Core → CoreStep
-freshStep c = record { outcome = accepted 0 0; core = c; usage = newIdle; fresh = true }
-
-unfoldable pub finishNext : Core → ThreadUsage → Next → CoreStep
-finishNext c u (N.Done o) = left c u o
-finishNext c u (N.Enter op reading) = enteredStep c u (entryOf (c .books) u reading op)
-finishNext c u (N.Report i) = reportStep c u
-finishNext c u N.Fresh = freshStep c
-
-abbrev pub finishOf : Begun → ThreadUsage → CoreStep
-finishOf s u = finishNext (s .core) u (s .next)
+use Rattle.table.specs.Says.{values, sampleTells, announcementTells}
+use Rattle.machine.specs.declared.Machine.{Machine}
+use Rattle.machine.specs.declared.Stepped.{Stepped}
 
 abbrev pub coreOf : Machine → Core
 coreOf m = record { ready = m .ready; timer = m .timer; books = m .ledger .books }
 
--- the thread records after a step: fresh ones after setup, else the one concerned stored back
-abbrev pub threadsAfter : List ThreadUsage → ℕ → CoreStep → List ThreadUsage
-threadsAfter threads k s = cond (s .fresh) (replicate (length threads) newIdle) (set threads k (s .usage))
+abbrev pub slotsOf : Machine → ℕ
+slotsOf m = length (m .ledger .threads)
 
-abbrev pub machineOf : Core → List ThreadUsage → Machine
-machineOf c threads = record { ready = c .ready; timer = c .timer; ledger = record { books = c .books; threads = threads } }
+-- announce refused: the leaf's
+unfoldable pub announceRows : Announced → List (Row Reason)
+announceRows (A.Accepted a) = []
+announceRows (A.Refused why) = (true, Why.NotAnnounced why) ∷ []
 
-abbrev pub steppedFrom : List ThreadUsage → ℕ → CoreStep → Stepped
-steppedFrom threads k s = record { outcome = s .outcome; machine = machineOf (s .core) (threadsAfter threads k s) }
+-- sum or window count won't fit
+abbrev pub fullRow : Machine → Operation → Gaps → Row Reason
+fullRow m op g = (full (m .ledger .books) (usageOf (m .ledger) op) (stampOf (readingOf (m .timer) g)) op, Why.WontFit)
 
--- both parts of a step, over a table's own record
-abbrev pub stepFrom : List ThreadUsage → Begun → Stepped
-stepFrom threads s =
-    steppedFrom threads (placeOf s (length threads)) (finishOf s (getD threads (placeOf s (length threads)) newIdle))
+-- the last two rows of the table
+unfoldable pub lastRows : Machine → Task → List (Row Reason)
+lastRows m (T.Run p) = []
+lastRows m (T.Sample g W.Tell) = []
+lastRows m (T.Sample g (W.Operate op)) = fullRow m op g ∷ []
+lastRows m T.Announce = announceRows (announceOf (m .timer))
+lastRows m (T.Report i) = []
+lastRows m (T.Setup s) = []
 
+-- the table for one task, and for one record; bytes that are no record meet its first row
+abbrev pub taskRows : Machine → Task → List (Row Reason)
+taskRows m task = table (coreOf m) (askedBy (m .ledger .books) (slotsOf m) task) ++ lastRows m task
+
+unfoldable pub recordRows : Machine → Decoded → List (Row Reason)
+recordRows m (D.Accepted r) = taskRows m (taskOf r)
+recordRows m (D.Refused why) = (true, Why.BadRecord) ∷ []
+
+-- and the malformed state before it
+abbrev pub rowsOf : Machine → Decoded → List (Row Reason)
+rowsOf m d = (malformed (coreOf m) (slotsOf m), Why.Malformed) ∷ recordRows m d
+
+-- the table's last column: a sum or window count that won't fit leaves the ledger as it was, and the sample is kept; every other refusal leaves all
+unfoldable pub afterTouch : Reason → Bool
+afterTouch Why.Malformed = false
+afterTouch Why.BadRecord = false
+afterTouch Why.NotSetUp = false
+afterTouch Why.SecondSetup = false
+afterTouch Why.NoThread = false
+afterTouch Why.Running = false
+afterTouch Why.AnnounceFirst = false
+afterTouch Why.CyclesAbove = false
+afterTouch (Why.NotAnnounced leafs) = false
+afterTouch Why.WontFit = true
+
+abbrev pub withTimer : Machine → Timer → Machine
+withTimer m timer = record { ready = m .ready; timer = timer; ledger = m .ledger }
+
+-- what an accepted record answers, and the machine that it leaves
+pub record Done : Type 0 where
+  pub values : Values
+  pub machine : Machine
+
+abbrev pub answers : Values → Machine → Done
+answers told after = record { values = told; machine = after }
+
+-- the cycles that an operation closes, at the stamp of its own reading
+abbrev pub closed : Machine → Operation → Gaps → ℕ
+closed m op g = closedCycles (m .ledger .books) (usageOf (m .ledger) op) (stampOf (readingOf (m .timer) g)) op
+
+-- the sample's counter and clock, and the ledger's own step at its reading
+abbrev pub afterOperation : Machine → Operation → Gaps → Machine
+afterOperation m op g = record { ready = m .ready; timer = sampleValue (m .timer) g .timer; ledger = operateOf (m .ledger) (sampleValue (m .timer) g .reading) op .ledger }
+
+-- Report: total, average.
+abbrev pub reportTells : ThreadReport → Values
+reportTells r = values (r .total .0) (r .average .0)
+
+-- Kinds 3 to 7: cycles closed, 0. Run and setup: 0 0.
+unfoldable pub doneBy : Machine → Task → Done
+doneBy m (T.Run p) = answers (values 0 0) (withTimer m (record { counter = runN p (m .timer .counter); clock = m .timer .clock }))
+doneBy m (T.Sample g W.Tell) = answers (sampleTells (sampleValue (m .timer) g)) (withTimer m (sampleValue (m .timer) g .timer))
+doneBy m (T.Sample g (W.Operate op)) = answers (values (closed m op g) 0) (afterOperation m op g)
+doneBy m T.Announce = answers (announcementTells (announcement (m .timer))) (withTimer m (announcement (m .timer) .timer))
+doneBy m (T.Report i) = answers (reportTells (reportValue (recordOf (m .ledger) i))) m
+doneBy m (T.Setup s) = answers (values 0 0) (record { ready = true; timer = setup (s .period) (s .tick); ledger = freshOf (slotsOf m) })
+
+-- of bytes that are no record nothing, since none passes the table
+unfoldable pub acceptedBy : Machine → Decoded → Done
+acceptedBy m (D.Accepted r) = doneBy m (taskOf r)
+acceptedBy m (D.Refused why) = answers (values 0 0) m
+
+abbrev pub accepted : Done → Stepped
+accepted done = record { outcome = O.Accepted (done .values); machine = done .machine }
+
+abbrev pub refused : Machine → Done → Reason → Stepped
+refused m done why = record { outcome = O.Refused why; machine = cond (afterTouch why) (withTimer m (done .machine .timer)) m }
+
+-- 01's table: the first row that holds turns the record away, and where none does it is accepted
 unfoldable pub stepOf : Machine → Decoded → Stepped
-stepOf m d = stepFrom (m .ledger .threads) (beginOf (coreOf m) (length (m .ledger .threads)) d)
+stepOf m d = inOrder (rowsOf m d) (refused m (acceptedBy m d)) (accepted (acceptedBy m d))
 
 -- a machine that is not set up
 abbrev pub freshMachine : ℕ → Machine
-freshMachine slots = record { ready = false; timer = setup 0 0; ledger = freshOf slots }
+freshMachine slots = record { ready = false; timer = noTimer; ledger = freshOf slots }

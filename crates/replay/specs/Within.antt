@@ -1,4 +1,4 @@
--- What reading a trace into an array may answer.
+-- Inside: what reading a trace into an array may answer.
 use Prim.Native.Nat.{ℕ, _≤_}
 use mathlib.Core.List.{List}
 use lib.ListN.{length}

@@ -4,7 +4,7 @@ mod output;
 
 use input::Input;
 
-// A program can't choose its status. A failure is a line on standard error, of which tools/replay.sh makes a status.
+// A program can't choose its status. A failure is a line on standard error, of which ./tickclock makes a status.
 fn main() {
     let words = os::arg_count();
     if 2 < words {

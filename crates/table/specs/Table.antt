@@ -1,14 +1,13 @@
--- 01's table of refusals: one reason for each row, in its order, and the malformed state before them.
-use Prim.Native.Nat.{_-_, ℕ, _+_, _*_}
+-- 01's table of refusals: each row's number, the malformed state, and the rows that are tested before the counter is touched, in order. The last two rows are in crate machine.
+use Prim.Native.Nat.{ℕ}
 use mathlib.Core.Bool.{Bool, not, _&&_, _||_}
 use mathlib.Core.List.{List, [], _∷_}
-use lib.Dec.{ltb}
 use Rattle.error.specs.declared.Refusal.{Refusal}
 use Rattle.error.specs.declared.Refusal.the-variants.{Missing, BadThread, Again, Invalid, Already, Overflow}
-use Rattle.error.specs.Numbers.{max32, max64}
 use Rattle.error.specs.InOrder.{Row, inOrder}
-use Rattle.clock.specs.declared.Timer.{Timer}
+use Rattle.counter.specs.Entries.{cyclesAbove}
 use Rattle.clock.specs.Timer.{wellFormed}
+use Rattle.clock.specs.Sample.{crowded}
 use Rattle.books.specs.Enter.{unrecorded}
 use Rattle.table.specs.declared.Core.{Core}
 use Rattle.table.specs.declared.Reason.{Reason}
@@ -34,10 +33,6 @@ refusalOf Why.WontFit = Overflow
 unfoldable pub malformed : Core → ℕ → Bool
 malformed c slots = c .ready && (not (wellFormed (c .timer)) || unrecorded (c .books) slots)
 
--- overflow + 2L - 1 above 2^32 - 1
-unfoldable pub crowded : Timer → Bool
-crowded t = ltb max32 (t .clock .overflow + 2 * t .counter .period - 1)
-
 -- the rows that are tested before the counter is touched
 abbrev pub table : Core → Asked → List (Row Reason)
 table c asked =
@@ -47,7 +42,7 @@ table c asked =
     (asked .past, Why.NoThread) ∷
     (asked .busy, Why.Running) ∷
     (asked .samples && crowded (c .timer), Why.AnnounceFirst) ∷
-    (ltb max64 (c .timer .counter .cycles .0 + asked .cycles), Why.CyclesAbove) ∷
+    (cyclesAbove (c .timer .counter) (asked .cycles), Why.CyclesAbove) ∷
     []
 
 unfoldable pub testedOf : Core → Asked → Verdict

@@ -1,13 +1,13 @@
 -- What a record asks of the machine: each kind that changes the ledger is a sample and then one operation.
-use Prim.Native.Nat.{ℕ, _+_}
-use mathlib.Core.Bool.{true, false, not, _&&_}
-use lib.Dec.{leb, eqb}
-use Rattle.counter.specs.Entries.{goodPeriod}
+use Prim.Native.Nat.{ℕ}
+use mathlib.Core.Bool.{true, false}
 use Rattle.clock.specs.declared.Gaps.{Gaps}
+use Rattle.clock.specs.Timer.{badSetup}
+use Rattle.clock.specs.Sample.{wholeOf}
 use Rattle.books.specs.declared.Books.{Books}
 use Rattle.books.specs.declared.Operation.{Operation}
 use Rattle.books.specs.declared.Operation.the-variants as O
-use Rattle.books.specs.Enter.{past, busy}
+use Rattle.books.specs.Enter.{noThread, past, busy}
 use Rattle.trace.specs.declared.Record.{Record}
 use Rattle.trace.specs.declared.Record.the-variants as K
 use Rattle.trace.specs.declared.Setup.{Setup}
@@ -37,21 +37,17 @@ asksNothing = record { setup = false; bad = false; past = false; busy = false; s
 abbrev pub asksCycles : ℕ → Asked
 asksCycles n = record { setup = false; bad = false; past = false; busy = false; samples = false; cycles = n }
 
--- r counts even where no D follows
-abbrev pub sumOf : Gaps → ℕ
-sumOf g = g .p + g .q + g .r
-
 abbrev pub asksSample : Gaps → Asked
-asksSample g = record { setup = false; bad = false; past = false; busy = false; samples = true; cycles = sumOf g }
+asksSample g = record { setup = false; bad = false; past = false; busy = false; samples = true; cycles = wholeOf g }
 
 abbrev pub asksOperation : Books → ℕ → Operation → Gaps → Asked
-asksOperation b slots op g = record { setup = false; bad = false; past = past op slots; busy = busy b op; samples = true; cycles = sumOf g }
+asksOperation b slots op g = record { setup = false; bad = false; past = past op slots; busy = busy b op; samples = true; cycles = wholeOf g }
 
 abbrev pub asksReport : ℕ → ℕ → Asked
-asksReport slots i = record { setup = false; bad = false; past = leb slots i; busy = false; samples = false; cycles = 0 }
+asksReport slots i = record { setup = false; bad = false; past = noThread slots i; busy = false; samples = false; cycles = 0 }
 
 abbrev pub asksSetup : Setup → Asked
-asksSetup s = record { setup = true; bad = not (goodPeriod (s .period) && not (eqb (s .tick) 0)); past = false; busy = false; samples = false; cycles = 0 }
+asksSetup s = record { setup = true; bad = badSetup (s .period) (s .tick); past = false; busy = false; samples = false; cycles = 0 }
 
 unfoldable pub askedBy : Books → ℕ → Task → Asked
 askedBy b slots (T.Run p) = asksCycles p

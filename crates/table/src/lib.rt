@@ -1,9 +1,6 @@
-// 01's table of refusals: its tests in its order, made before the counter is touched, and what a step answers.
+// 01's table of refusals: the tests that are made before the counter is touched, in its order, and what a step answers.
 ghost use mathlib.Core.Path.{_≡_};
-ghost use Prim.Native.Nat.{_+_};
-ghost use lib.Dec.{ltb};
-ghost use Rattle.error.specs.Numbers.{max64};
-ghost use Rattle.table.specs.Table.{refusalOf, malformed, crowded, testedOf};
+ghost use Rattle.table.specs.Table.{refusalOf, malformed, testedOf};
 ghost use Rattle.table.specs.Says.{outcomeSays};
 use books::Books;
 use clock::Timer;
@@ -12,7 +9,7 @@ use tasks::Asked;
 
 pub mod tasks;
 
-// A machine without its thread records, so that a step costs the same for any number of them.
+// A machine without its thread records: what a record changes is worked out at the same cost for any number of them.
 pub struct Core {
     pub ready: bool,
     pub timer: Timer,
@@ -108,27 +105,12 @@ pub fn malformed(core: Core, slots: usize) -> bool
     core.ready & (!formed | lost)
 }
 
-// Whether overflow + 2L - 1 passes 2^32 - 1; one is added on both sides, since a state handed in may have no L.
-fn crowded(timer: Timer) -> bool
-    ensures { λ r. ⌜ r ≡ crowded timer ⌝ }
-{
-    let twice = 2 * (timer.counter.period as u64);
-    let most = timer.clock.overflow as u64 + twice;
-    4294967296 < most
-}
-
-fn cycles_above(timer: Timer, cycles: u64) -> bool
-    ensures { λ r. ⌜ r ≡ ltb max64 (timer .counter .cycles .0 + cycles) ⌝ }
-{
-    let room = u64::MAX - cycles;
-    room < timer.counter.cycles.0
-}
-
 // 01's table, row by row: the first test that holds turns the record away, and nothing has been touched.
 pub fn tested(core: Core, asked: Asked) -> Verdict
     ensures { λ r. ⌜ r ≡ testedOf core asked ⌝ }
 {
     let timer = core.timer;
+    let counter = timer.counter;
     if asked.bad {
         return Verdict::Refused(Reason::BadRecord);
     }
@@ -144,10 +126,10 @@ pub fn tested(core: Core, asked: Asked) -> Verdict
     if asked.busy {
         return Verdict::Refused(Reason::Running);
     }
-    if asked.samples & crowded(timer) {
+    if asked.samples & clock::crowded(timer) {
         return Verdict::Refused(Reason::AnnounceFirst);
     }
-    if cycles_above(timer, asked.cycles) {
+    if counter.cycles_above(asked.cycles) {
         return Verdict::Refused(Reason::CyclesAbove);
     }
     Verdict::Passed

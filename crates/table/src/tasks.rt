@@ -1,6 +1,5 @@
 // What a record asks of the machine: each kind that changes the ledger is a sample and then one operation.
 ghost use mathlib.Core.Path.{_≡_};
-ghost use Prim.Native.Nat.{_+_};
 ghost use Rattle.table.specs.declared.tasks.Task.the-variants as T;
 ghost use Rattle.table.specs.Task.{taskOf, asksNothing, asksCycles, asksSample, asksOperation, asksReport, asksSetup, askedBy};
 use books::Books;
@@ -63,13 +62,6 @@ pub fn task_of(decoded: Record) -> Task
     }
 }
 
-// p, q and r as one number of cycles: three of 32 bits can't pass 64.
-fn gaps_sum(gaps: Gaps) -> u64
-    ensures { λ r. ⌜ r ≡ gaps .p + gaps .q + gaps .r ⌝ }
-{
-    gaps.p as u64 + gaps.q as u64 + gaps.r as u64
-}
-
 pub fn asks_nothing() -> Asked
     ensures { λ r. ⌜ r ≡ asksNothing ⌝ }
 {
@@ -94,7 +86,7 @@ pub fn asks_cycles(cycles: u64) -> Asked
 fn asks_sample(gaps: Gaps) -> Asked
     ensures { λ r. ⌜ r ≡ asksSample gaps ⌝ }
 {
-    let mut asked = asks_cycles(gaps_sum(gaps));
+    let mut asked = asks_cycles(gaps.whole());
     asked.samples = true;
     asked
 }
@@ -122,9 +114,9 @@ pub fn asks_then(books: Books, slots: usize, gaps: Gaps, then: Then) -> Asked
 pub fn asks_report(slots: usize, thread: u32) -> Asked
     ensures { λ r. ⌜ r ≡ asksReport slots thread ⌝ }
 {
-    let k = thread as usize;
+    let past = books::no_thread(slots, thread);
     let mut asked = asks_nothing();
-    asked.past = slots <= k;
+    asked.past = past;
     asked
 }
 
@@ -132,9 +124,9 @@ pub fn asks_report(slots: usize, thread: u32) -> Asked
 pub fn asks_setup(setup: Setup) -> Asked
     ensures { λ r. ⌜ r ≡ asksSetup setup ⌝ }
 {
-    let good = counter::good_period(setup.period);
+    let bad = clock::bad_setup(setup.period, setup.tick);
     let mut asked = asks_nothing();
     asked.setup = true;
-    asked.bad = !(good & (setup.tick != 0));
+    asked.bad = bad;
     asked
 }

@@ -6,22 +6,22 @@ use mathlib.Core.List.{List, _∷_}
 use native.Mathlib.Omega.{arith}
 use lib.ListN.{getD}
 use lib.Dec.{eqb}
-use borrow.Author.Tests.{eqb-true, eqb-false, ne-eqb, ltb-false}
+use borrow.Author.Tests.{eqb-true, ltb-false}
 use Rattle.error.proofs.Tests.{clash}
 use Rattle.error.proofs.Ordered.{by-outcome}
-use Rattle.counter.specs.Entries.{goodPeriod}
+use Rattle.clock.specs.Timer.{badSetup}
 use Rattle.trace.specs.declared.Fields.{Fields}
 use Rattle.trace.specs.declared.Record.{Record}
 use Rattle.trace.specs.declared.Record.the-variants as K
 use Rattle.trace.specs.declared.Decoded.{Decoded}
 use Rattle.trace.specs.declared.Decoded.the-variants as D
-use Rattle.trace.specs.Decode.{wordOf, wordAt, fieldsAt, samples, usesThread, unusedSet, badSetup, recordOf, decodeTests, decodeFields}
+use Rattle.trace.specs.Decode.{wordOf, wordAt, fieldsAt, samples, usesThread, unusedSet, recordOf, decodeTests, decodeFields}
 use Rattle.trace.specs.Bytes.{fieldsOf, Good, Fit, wordThen, encoded, fourThen, sixteenAt, Decodes}
 use Rattle.trace.proofs.Outcomes.{whole}
 
 -- a record's fields decode to it
 back : (r : Record) → Good r → decodeFields (fieldsOf r) ≡ D.Accepted r
-unfolding decodeFields unusedSet badSetup samples usesThread recordOf
+unfolding decodeFields unusedSet samples usesThread recordOf
 back (K.Run p) good = refl
 back (K.Sample g) good = refl
 back K.Announce good = refl
@@ -31,7 +31,7 @@ back (K.Stop g) good = refl
 back (K.Enable i g) good = refl
 back (K.Disable i g) good = refl
 back (K.Report i) good = refl
-back (K.Setup s) good = simp (good .0, ne-eqb (s .tick) 0 (λ e. let h = good .1 in omega arith))
+back (K.Setup s) good = simp good
 
 -- what is not used is 0
 none-of : (used : Bool) (n : ℕ) → used ≡ false → not used && not (eqb n 0) ≡ false → n ≡ 0
@@ -91,8 +91,8 @@ forth (suc (suc (suc (suc (suc (suc (suc (suc (suc zero))))))))) t z p q r h u =
 forth (suc (suc (suc (suc (suc (suc (suc (suc (suc (suc k)))))))))) t z p q r h u = absurd (omega arith)
 
 -- and a setup that was not turned away is good
-good-of : (k t z p q r : ℕ) → k ≤ 9 → badSetup (make k t z p q r) ≡ false → Good (recordOf (make k t z p q r))
-unfolding recordOf badSetup
+good-of : (k t z p q r : ℕ) → k ≤ 9 → eqb k 9 && badSetup p q ≡ false → Good (recordOf (make k t z p q r))
+unfolding recordOf
 good-of zero t z p q r h b = tt
 good-of (suc zero) t z p q r h b = tt
 good-of (suc (suc zero)) t z p q r h b = tt
@@ -102,12 +102,7 @@ good-of (suc (suc (suc (suc (suc zero))))) t z p q r h b = tt
 good-of (suc (suc (suc (suc (suc (suc zero)))))) t z p q r h b = tt
 good-of (suc (suc (suc (suc (suc (suc (suc zero))))))) t z p q r h b = tt
 good-of (suc (suc (suc (suc (suc (suc (suc (suc zero)))))))) t z p q r h b = tt
-good-of (suc (suc (suc (suc (suc (suc (suc (suc (suc zero))))))))) t z p q r h b = both (goodPeriod p) (eqb q 0) refl (not-false _ b)
-  where
-    both : (g n : Bool) → eqb q 0 ≡ n → g && not n ≡ true → (g ≡ true) × (1 ≤ q)
-    both true true e c = clash (cc)
-    both true false e c = (refl, let d = eqb-false q 0 e in omega arith)
-    both false n e c = clash (cc)
+good-of (suc (suc (suc (suc (suc (suc (suc (suc (suc zero))))))))) t z p q r h b = b
 good-of (suc (suc (suc (suc (suc (suc (suc (suc (suc (suc k)))))))))) t z p q r h b = absurd (omega arith)
 
 accepted : (f : Fields) (r : Record) → decodeFields f ≡ D.Accepted r → (f ≡ fieldsOf r) × Good r

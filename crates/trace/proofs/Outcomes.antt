@@ -1,18 +1,18 @@
 -- What is turned away whatever its kind, a setup's tests in one, and where sixteen bytes are left.
 use Prim.Native.Nat.{ℕ, zero, suc, _+_, _≤_, _<_}
 use mathlib.Core.Path.{_≡_, refl}
-use mathlib.Core.Bool.{Bool, true, false, cond, not, _&&_, _||_, or-false}
+use mathlib.Core.Bool.{Bool, true, false, cond, not, _||_, or-false}
 use mathlib.Core.List.{List}
 use lib.ListN.{length}
 use native.Mathlib.Omega.{arith}
 use lib.Dec.{eqb}
 use borrow.Author.Tests.{lt-ltb, le-ltb, ne-eqb}
 use Rattle.error.specs.declared.Refusal.the-variants.{Invalid}
-use Rattle.counter.specs.Entries.{goodPeriod}
+use Rattle.clock.specs.Timer.{badSetup}
 use Rattle.trace.specs.declared.Fields.{Fields}
 use Rattle.trace.specs.declared.Record.the-variants as K
 use Rattle.trace.specs.declared.Decoded.the-variants as D
-use Rattle.trace.specs.Decode.{fieldsAt, samples, usesThread, unusedSet, badSetup, recordOf, decodeFields, decodeOf}
+use Rattle.trace.specs.Decode.{fieldsAt, samples, usesThread, unusedSet, recordOf, decodeFields, decodeOf}
 
 either-way : {A : Type 0} (test : Bool) (x : A) → cond test x x ≡ x
 either-way true x = refl
@@ -42,9 +42,9 @@ module _ (f : Fields) where
   unknown none = let h = past-all 10 (f .kind) none in simp (lt-ltb 9 (f .kind) (omega arith))
 
   -- a setup's tests, all in one
-  pub setup : f .kind ≡ 9 → f .spare ≡ 0 → cond (not (eqb (f .thread) 0) || not (eqb (f .r) 0) || not (goodPeriod (f .p) && not (eqb (f .q) 0))) (D.Refused Invalid) (D.Accepted (K.Setup (record { period = f .p; tick = f .q }))) ≡ decodeFields f
-  unfolding decodeFields unusedSet badSetup samples usesThread recordOf
-  setup kind clean = simp (kind, clean, or-false) (in-one (not (eqb (f .thread) 0) || not (eqb (f .r) 0)) (not (goodPeriod (f .p) && not (eqb (f .q) 0))) _ _)
+  pub setup : f .kind ≡ 9 → f .spare ≡ 0 → cond (not (eqb (f .thread) 0) || not (eqb (f .r) 0) || badSetup (f .p) (f .q)) (D.Refused Invalid) (D.Accepted (K.Setup (record { period = f .p; tick = f .q }))) ≡ decodeFields f
+  unfolding decodeFields unusedSet samples usesThread recordOf
+  setup kind clean = simp (kind, clean, or-false) (in-one (not (eqb (f .thread) 0) || not (eqb (f .r) 0)) (badSetup (f .p) (f .q)) _ _)
 
 module _ (s : List ℕ) (at : ℕ) where
   pub short : length s < at + 16 → D.Refused Invalid ≡ decodeOf s at

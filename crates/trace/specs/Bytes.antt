@@ -1,11 +1,11 @@
 -- The sixteen bytes of a record: what decodes is what they encode, and nothing else decodes to it.
 use Prim.Native.Nat.{ℕ, _+_, _/_, _%_, _^_, _≤_, _<_}
 use mathlib.Core.Path.{_≡_}
-use mathlib.Core.Bool.{true}
+use mathlib.Core.Bool.{false}
 use mathlib.Core.List.{List, [], _∷_}
 use mathlib.Core.Logic.{_↔_}
 use lib.ListN.{length, getD}
-use Rattle.counter.specs.Entries.{goodPeriod}
+use Rattle.clock.specs.Timer.{badSetup}
 use Rattle.trace.specs.declared.Fields.{Fields}
 use Rattle.trace.specs.declared.Record.{Record}
 use Rattle.trace.specs.declared.Record.the-variants as K
@@ -30,7 +30,7 @@ fieldsOf (K.Setup s) = fields 9 0 (s .period) (s .tick) 0
 
 -- a setup's period and tick are good
 abbrev pub Good : Record → Type 0
-Good (K.Setup s) = (goodPeriod (s .period) ≡ true) × (1 ≤ s .tick)
+Good (K.Setup s) = badSetup (s .period) (s .tick) ≡ false
 Good (K.Run p) = Unit {0}
 Good (K.Sample g) = Unit {0}
 Good K.Announce = Unit {0}

@@ -9,8 +9,8 @@ use Rattle.error.specs.declared.Refusal.{Refusal}
 use Rattle.error.specs.declared.Refusal.the-variants.{Invalid}
 use Rattle.error.specs.Numbers.{ok, numberOf}
 use Rattle.error.specs.InOrder.{Row, inOrder}
-use Rattle.counter.specs.Entries.{goodPeriod}
 use Rattle.clock.specs.declared.Gaps.{Gaps}
+use Rattle.clock.specs.Timer.{badSetup}
 use Rattle.trace.specs.declared.Fields.{Fields}
 use Rattle.trace.specs.declared.Record.{Record}
 use Rattle.trace.specs.declared.Record.the-variants as K
@@ -52,10 +52,6 @@ unusedSet f =
     (not (samples (f .kind) || eqb (f .kind) 9) && not (eqb (f .q) 0)) ||
     (not (samples (f .kind)) && not (eqb (f .r) 0))
 
--- setup: L = p, tick = q, at least 1
-unfoldable pub badSetup : Fields → Bool
-badSetup f = eqb (f .kind) 9 && not (goodPeriod (f .p) && not (eqb (f .q) 0))
-
 abbrev pub gapsOf : Fields → Gaps
 gapsOf f = record { p = f .p; q = f .q; r = f .r }
 
@@ -72,12 +68,12 @@ recordOf f =
     (cond (eqb (f .kind) 8) (K.Report (f .thread))
     (K.Setup (record { period = f .p; tick = f .q }))))))))))
 
--- the first row of 01's table: unknown kind, unused byte or field not 0, bad L or tick
+-- the first row of 01's table: unknown kind, unused byte or field not 0, bad L or tick (setup: L = p, tick = q)
 abbrev pub decodeTests : Fields → List (Row Refusal)
 decodeTests f =
     (ltb 9 (f .kind), Invalid) ∷
     (unusedSet f, Invalid) ∷
-    (badSetup f, Invalid) ∷
+    (eqb (f .kind) 9 && badSetup (f .p) (f .q), Invalid) ∷
     []
 
 unfoldable pub decodeFields : Fields → Decoded

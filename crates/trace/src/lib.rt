@@ -126,12 +126,12 @@ fn decode_fields(fields: Fields) -> Decoded
         7 => Decoded::Accepted(Record::Disable(thread, gaps)),
         8 => accepted_unless(p_set | q_set | r_set, Record::Report(thread)),
         9 => {
-            let good = counter::good_period(fields.p) & q_set;
+            let bad = clock::bad_setup(fields.p, fields.q);
             let setup = Setup {
                 period: fields.p,
                 tick: fields.q,
             };
-            accepted_unless(thread_set | r_set | !good, Record::Setup(setup))
+            accepted_unless(thread_set | r_set | bad, Record::Setup(setup))
         }
         _ => Decoded::Refused(Refusal::Invalid),
     }

@@ -1,13 +1,15 @@
 -- A line a turn: the lines of what is left, written where the last one ended, finish the text.
 use Prim.Native.Nat.{_-_, ℕ, suc, _+_, _*_, _≤_, _<_}
 use mathlib.Core.Path.{_≡_, refl, sym, ap, _∙_}
-use mathlib.Core.Bool.{Bool, true, false}
+use mathlib.Core.Bool.{Bool, true, false, cond}
 use mathlib.Core.List.{List, _++_}
 use mathlib.Core.Logic.{inl}
 use native.Mathlib.Omega.{arith}
 use native.Mathlib.Numerals.{add-one}
+use lib.Dec.{ltb}
+use borrow.Author.Tests.{ltb-true, leb-false, lt-ltb}
 use lib.ListN.{length, getD, set, replicate, length-append}
-use lib.Seq.{sets, length-sets, set-getD}
+use lib.Seq.{sets, length-sets}
 use Rattle.error.specs.declared.Refusal.{Refusal}
 use Rattle.error.specs.Numbers.{max64}
 use Rattle.error.proofs.Tests.{clash}
@@ -35,17 +37,21 @@ use Rattle.changes.specs.declared.Change.{Change}
 use Rattle.changes.specs.declared.Change.the-variants as X
 use Rattle.machine.specs.declared.Machine.{Machine}
 use Rattle.machine.specs.declared.Stepped.{Stepped}
-use Rattle.machine.specs.Step.{accepted, turned, toldBegun, ranBegun, withTimer, withBooks, coreOf, beginOf, nextThread, slotOf, placeOf, enteredStep, reportOf, finishNext, machineOf, stepFrom, stepOf}
-use Rattle.machine.specs.Making.{begunBy}
-use Rattle.machine.proofs.Changing.{same}
-use Rattle.steps.proofs.Keeping.{every-refusal}
-use Rattle.steps.proofs.Whole.{stays-whole}
+use Rattle.machine.specs.Step.{withTimer, coreOf, stepOf, reportTells}
+use Rattle.machine.proofs.Making.{operationTells, reportedBy, madeOf}
+use Rattle.machine.proofs.Tying.{Turn, step-made}
+use Rattle.machine.proofs.Stepping.{every-refusal}
+use Rattle.machine.proofs.InPlace.{entrance, reportable}
+use Rattle.machine.proofs.Whole.{stays-whole}
+use Rattle.ledger.specs.Operate.{storedIn, operateOf, reportValue, reportOf}
+use Rattle.ledger.proofs.Operating.{within, storing}
 use Rattle.lines.specs.declared.label.Label.{Label}
 use Rattle.lines.specs.Text.{lineRoom, restRoom}
 use Rattle.lines.specs.Naming.{nextLabel, labelText, underneath, Named}
 use Rattle.lines.specs.Writing.{Put}
 use Rattle.transcript.specs.Replay.{recordsFrom, machineAfter, linesFrom, outcomeText, restOf}
-use Rattle.transcript.specs.Room.{changeUnless, Labelled, Replays}
+use Rattle.transcript.specs.Room.{slotOf, machineOf, Labelled, Replays}
+use Rattle.transcript.specs.Room as room
 use Rattle.lines.proofs.Named.{next-named}
 use Rattle.lines.proofs.Stores.{in-parts}
 use Rattle.transcript.proofs.Texts.{whole-line, label-room}
@@ -133,60 +139,71 @@ module _ {m₀ : Machine} {n₀ : ℕ} {ds₀ : List Decoded} {slots : ℕ} {bro
             enough = rw same-length (going .enough);
           }
 
--- a turn of the loop: the state, and what the record changes of it
-pub record Turn (core : Core) (threads : List ThreadUsage) (d : Decoded) (change : Change) : Type 0 where
-  pub slots : ℕ
-  pub broken : Bool
-  pub table : length threads ≡ slots
-  pub form : malformed core slots ≡ broken
-  pub made : change ≡ changeUnless broken core slots d
+-- the slot is in every table that has one
+inside : (i slots : ℕ) → 0 < slots → slotOf i slots < slots
+unfolding slotOf
+inside i slots h = by-test (ltb i slots) refl
+  where
+    by-test : (t : Bool) → ltb i slots ≡ t → cond t i 0 < slots
+    by-test true e = ltb-true _ _ e
+    by-test false e = h
+
+pub slot-within : {k slots : ℕ} (i : ℕ) → k ≡ slotOf i slots → 0 < slots → k < slots
+slot-within i e h = rw e (inside i _ h)
+
+-- a thread in the table has its own slot
+slot-own : (i slots : ℕ) → i < slots → slotOf i slots ≡ i
+unfolding slotOf
+slot-own i slots h = simp (lt-ltb i slots h)
 
 -- the machine's step, as the loop makes it: what the record changes, and then the table of thread records
-module _ {core : Core} {threads : List ThreadUsage} {d : Decoded} {change : Change} (turn : Turn core threads d change) where
+module _ {core : Core} {threads : List ThreadUsage} {d : Decoded} {change : Change} (turn : Turn (machineOf core threads) d change) where
   abbrev slots : ℕ
   slots = turn .slots
 
-  begun-as : (b : Bool) → malformed core slots ≡ b → begunBy core (changeUnless b core slots d) ≡ beginOf core slots d
-  unfolding changeUnless begunBy beginOf
-  begun-as true e = rw e refl
-  begun-as false e = same core slots e d ∙ rw e refl
+  abbrev there : Machine
+  there = machineOf core threads
 
-  step-is : stepOf (machineOf core threads) d ≡ stepFrom threads (begunBy core change)
-  unfolding stepOf
-  step-is = ap (λ (n : ℕ). stepFrom threads (beginOf core n d)) (turn .table) ∙ ap (stepFrom threads) (sym (ap (begunBy core) (turn .made) ∙ begun-as (turn .broken) (turn .form)))
+  step-is : stepOf there d ≡ madeOf there change
+  step-is = step-made turn
 
-  -- the record of a slot stored back as it was
-  back : (k : ℕ) → set threads k (getD threads k newIdle) ≡ threads
-  back k = set-getD threads k newIdle
+  pub refused : {why : Reason} → change ≡ X.Refused why → stepOf there d ≡ record { outcome = O.Refused why; machine = there }
+  unfolding madeOf
+  refused e = step-is ∙ rw e refl
 
-  pub refused : {why : Reason} → change ≡ X.Refused why → stepOf (machineOf core threads) d ≡ record { outcome = O.Refused why; machine = machineOf core threads }
-  unfolding begunBy finishNext
-  refused {why = why} e = step-is ∙ rw (e, back (placeOf (turned core why) (length threads))) refl
+  pub told : {t timer : Timer} {values : Values} → change ≡ X.Told t values → timer ≡ t → stepOf there d ≡ record { outcome = O.Accepted values; machine = withTimer there timer }
+  unfolding madeOf
+  told e same = step-is ∙ rw (e, same) refl
 
-  pub told : {t timer : Timer} {values : Values} → change ≡ X.Told t values → timer ≡ t → stepOf (machineOf core threads) d ≡ record { outcome = O.Accepted values; machine = machineOf (withTimer core timer) threads }
-  unfolding begunBy finishNext
-  told {t = t} {values = values} e timed = step-is ∙ rw (e, timed, back (placeOf (toldBegun core t values) (length threads))) refl
+  pub ran : {counter : Counter} {timer : Timer} → change ≡ X.Ran counter → timer ≡ record { counter = counter; clock = core .timer .clock } → stepOf there d ≡ record { outcome = room.told 0 0; machine = withTimer there timer }
+  unfolding madeOf
+  ran e same = step-is ∙ rw (e, same) refl
 
-  pub ran : {counter : Counter} {timer : Timer} → change ≡ X.Ran counter → timer ≡ record { counter = counter; clock = core .timer .clock } → stepOf (machineOf core threads) d ≡ record { outcome = accepted 0 0; machine = machineOf (withTimer core timer) threads }
-  unfolding begunBy finishNext
-  ran {counter = counter} e timed = step-is ∙ rw (e, timed, back (placeOf (ranBegun core counter) (length threads))) refl
+  module _ (some : 0 < slots) {t timer : Timer} {op : Operation} {reading : Cycles} {i k : ℕ} {x : Entered} (e : change ≡ X.Enter t op reading) (same-timer : timer ≡ t) (thread : i ≡ concerned (core .books) op) (slot : k ≡ slotOf i slots) (enters : x ≡ entryOf (core .books) (getD threads k newIdle) reading op) where
+    -- the ledger's own operation is the entry over the record in its slot, stored back
+    stored : operateOf (there .ledger) reading op ≡ storedIn (there .ledger) k x
+    stored =
+        let sure = entrance core slots d (turn .form) (turn .made) e in
+        let at : k ≡ concerned (core .books) op = slot ∙ (ap (λ (n : ℕ). slotOf n slots) thread ∙ slot-own _ slots (within (core .books) op slots some (sure .recorded) (sure .named))) in
+        storing (there .ledger) reading op (turn .table) (sure .recorded) (sure .named) (sure .free) at enters
 
-  module _ {t timer : Timer} {op : Operation} {reading : Cycles} {i k : ℕ} {x : Entered} (e : change ≡ X.Enter t op reading) (same-timer : timer ≡ t) (thread : i ≡ concerned (core .books) op) (slot : k ≡ slotOf i slots) (enters : x ≡ entryOf (core .books) (getD threads k newIdle) reading op) where
-    pub entered : {entry : Entry} {books : Books} {usage : ThreadUsage} → x ≡ E.Accepted entry → books ≡ entry .books → usage ≡ entry .usage → stepOf (machineOf core threads) d ≡ record { outcome = accepted (entry .cycles) 0; machine = machineOf (withBooks (withTimer core timer) books) (set threads k usage) }
-    unfolding begunBy finishNext nextThread placeOf enteredStep
-    entered a b u = step-is ∙ rw (e, same-timer, turn .table, ← thread, ← slot, ← enters, a, b, u) refl
+    pub entered : {entry : Entry} {books : Books} {usage : ThreadUsage} → x ≡ E.Accepted entry → books ≡ entry .books → usage ≡ entry .usage → stepOf there d ≡ record { outcome = room.told (entry .cycles) 0; machine = record { ready = core .ready; timer = timer; ledger = record { books = books; threads = set threads k usage } } }
+    unfolding madeOf storedIn operationTells
+    entered a b u = step-is ∙ rw (e, stored, same-timer, a, b, u) refl
 
-    pub not-entered : {why : Refusal} → x ≡ E.Refused why → stepOf (machineOf core threads) d ≡ record { outcome = O.Refused Why.WontFit; machine = machineOf (withTimer core timer) threads }
-    unfolding begunBy finishNext nextThread placeOf enteredStep
-    not-entered a = step-is ∙ rw (e, same-timer, turn .table, ← thread, ← slot, ← enters, a, back k) refl
+    pub not-entered : {why : Refusal} → x ≡ E.Refused why → stepOf there d ≡ record { outcome = O.Refused Why.WontFit; machine = withTimer there timer }
+    unfolding madeOf storedIn operationTells
+    not-entered a = step-is ∙ rw (e, stored, same-timer, a) refl
 
-  pub reported : {i k : ℕ} {values : Values} → change ≡ X.Report i → k ≡ slotOf i slots → values ≡ reportOf (getD threads k newIdle) → stepOf (machineOf core threads) d ≡ record { outcome = O.Accepted values; machine = machineOf core threads }
-  unfolding begunBy finishNext nextThread placeOf
-  reported {k = k} e slot v = step-is ∙ rw (e, turn .table, ← slot, v, back k) refl
+  pub reported : {i k : ℕ} {values : Values} → change ≡ X.Report i → k ≡ slotOf i slots → values ≡ reportTells (reportValue (getD threads k newIdle)) → stepOf there d ≡ record { outcome = O.Accepted values; machine = there }
+  unfolding madeOf reportOf reportedBy
+  reported {i = i} e slot v =
+      let sure = reportable core slots d (turn .form) (turn .made) e in
+      step-is ∙ rw (e, v, slot, slot-own i slots (leb-false _ _ (sure .within)), turn .table, sure .recorded, sure .within) refl
 
-  pub all-fresh : {size : ℕ} {t timer : Timer} {books : Books} {idle : ThreadUsage} → length threads ≡ size → change ≡ X.Fresh t → timer ≡ t → books ≡ nothingBooked → idle ≡ newIdle → stepOf (machineOf core threads) d ≡ record { outcome = accepted 0 0; machine = machineOf (record { ready = true; timer = timer; books = books }) (replicate size idle) }
-  unfolding begunBy finishNext
-  all-fresh sized e timed b i = step-is ∙ rw (e, timed, b, i, sized) refl
+  pub all-fresh : {size : ℕ} {t timer : Timer} {books : Books} {idle : ThreadUsage} → length threads ≡ size → change ≡ X.Fresh t → timer ≡ t → books ≡ nothingBooked → idle ≡ newIdle → stepOf there d ≡ record { outcome = room.told 0 0; machine = record { ready = true; timer = timer; ledger = record { books = books; threads = replicate size idle } } }
+  unfolding madeOf
+  all-fresh sized e same b i = step-is ∙ rw (e, same, b, i, sized) refl
 
 -- where nothing is left, everything is done
 pub ended : {core₀ : Core} {m : Machine} {n₀ first count at : ℕ} {slots : ℕ} {broken : Bool} {trace out₀ out : List ℕ} {after : Machine} {label : Label} {left from end : ℕ} → core₀ ≡ coreOf m → n₀ ≡ first → Going (machineOf core₀ (m .ledger .threads)) n₀ (recordsFrom count trace 0) slots broken trace out₀ at (at + count * lineRoom) out after label left from end → left ≤ 0 → Replays m first count trace out₀ out at (record { end = end; machine = after })

@@ -1,18 +1,18 @@
--- What the loop's private workers answer and ask of their caller, and what the records' lines leave.
+-- Inside: what the loop's private workers answer and ask of their caller, and what the records' lines leave.
 use Prim.Native.Nat.{ℕ, _+_, _*_, _/_, _≤_}
 use mathlib.Core.Path.{_≡_}
-use mathlib.Core.Bool.{Bool, cond}
+use mathlib.Core.Bool.{cond}
 use mathlib.Core.List.{List}
 use lib.ListN.{length}
+use lib.Dec.{ltb}
 use lib.Seq.{sets}
 use Rattle.error.specs.Numbers.{max64}
-use Rattle.trace.specs.declared.Decoded.{Decoded}
+use Rattle.usage.specs.declared.ThreadUsage.{ThreadUsage}
 use Rattle.table.specs.declared.Core.{Core}
-use Rattle.table.specs.declared.Reason.the-variants as Why
+use Rattle.table.specs.declared.Outcome.{Outcome}
+use Rattle.table.specs.declared.Outcome.the-variants as O
+use Rattle.table.specs.Says.{values}
 use Rattle.machine.specs.declared.Machine.{Machine}
-use Rattle.changes.specs.declared.Change.{Change}
-use Rattle.changes.specs.declared.Change.the-variants as X
-use Rattle.changes.specs.Change.{changeOf}
 use Rattle.transcript.specs.declared.Replayed.{Replayed}
 use Rattle.transcript.specs.Replay.{recordsFrom, machineAfter, linesFrom, lastRoom, mostBytes}
 use Rattle.lines.specs.declared.label.Label.{Label}
@@ -20,9 +20,17 @@ use Rattle.lines.specs.Text.{lineRoom}
 use Rattle.lines.specs.Naming.{labelText, underneath}
 use Rattle.lines.specs.Writing.{Put}
 
--- what a record changes of a state that may be malformed
-unfoldable pub changeUnless : Bool → Core → ℕ → Decoded → Change
-changeUnless broken c slots d = cond broken (X.Refused Why.Malformed) (changeOf c slots d)
+-- accepted, with x and y
+abbrev pub told : ℕ → ℕ → Outcome
+told x y = O.Accepted (values x y)
+
+-- a thread's slot in a table of so many
+unfoldable pub slotOf : ℕ → ℕ → ℕ
+slotOf i slots = cond (ltb i slots) i 0
+
+-- the machine whose parts the loop keeps
+abbrev pub machineOf : Core → List ThreadUsage → Machine
+machineOf c threads = record { ready = c .ready; timer = c .timer; ledger = record { books = c .books; threads = threads } }
 
 -- the label stands in the buffer over what was put underneath it, and `end` is the place after it
 pub record Labelled (before now : List ℕ) (at end : ℕ) (l : Label) : Type 0 where

@@ -4,13 +4,12 @@ ghost use mathlib.Core.Bool.{cond};
 ghost use Prim.Native.Nat.{_+_, _*_, _≤_};
 ghost use lib.ListN.{length};
 ghost use lib.Dec.{ltb};
-ghost use Rattle.trace.specs.Decode.{decodeOf};
 ghost use Rattle.table.specs.declared.Outcome.the-variants as O;
-ghost use Rattle.machine.specs.Step.{accepted, machineOf, freshMachine};
+ghost use Rattle.machine.specs.Step.{freshMachine};
 ghost use Rattle.lines.specs.Says.{writtenSays};
 ghost use Rattle.lines.specs.Text.{lineRoom, restRoom};
 ghost use Rattle.lines.specs.Writing.{Put};
-ghost use Rattle.transcript.specs.Room.{changeUnless, Labelled, HasRoom, Replays, Fits};
+ghost use Rattle.transcript.specs.Room.{told, slotOf, machineOf, Labelled, HasRoom, Replays, Fits};
 ghost use Rattle.transcript.specs.Replay.{restOf, partRefused, partOf, partBuffer, lastRoom, lastText, textFrom, roomFor, replayOf, replayedOf};
 use books::Books;
 use books::Entered;
@@ -20,6 +19,7 @@ use clock::Timer;
 use counter::Counter;
 use error::Refusal;
 use ledger::Ledger;
+use ledger::ThreadReport;
 use lines::LINE_ROOM;
 use lines::Written;
 use lines::label::Label;
@@ -77,20 +77,21 @@ fn put_refused(out: &mut [u8], at: usize, why: Reason) -> usize
 
 fn put_told(out: &mut [u8], at: usize, x: u64, y: u64) -> usize
     requires { ⌜ at + restRoom ≤ length (now out) ⌝ }
-    ensures text { λ r. ⌜ Put (now (out .entry)) (now (out .exit)) at r (restOf (accepted x y)) ⌝ }
+    ensures text { λ r. ⌜ Put (now (out .entry)) (now (out .exit)) at r (restOf (told x y)) ⌝ }
     ensures room { λ r. ⌜ r ≤ at + restRoom ⌝ }
 {
     put_values(out, at, x, y).end()
 }
 
-// A malformed state turns every record away, and stays as it is.
-fn change_unless(broken: bool, core: Core, trace: &[u8], from: usize) -> Change
-    ensures { λ r. do ⌜ r ≡ changeUnless broken core (← ⟦ThreadUsage::SLOTS⟧ .entry) (decodeOf (now (trace .entry)) from) ⌝ }
+// A thread's slot; the first for a thread past the table, of which no record asks.
+fn slot(thread: u32, slots: usize) -> usize
+    ensures { λ r. ⌜ r ≡ slotOf thread slots ⌝ }
 {
-    if broken {
-        return Change::Refused(Reason::Malformed);
+    let k = thread as usize;
+    if k < slots {
+        return k;
     }
-    changes::change_at(core, ThreadUsage::SLOTS, trace, from)
+    0
 }
 
 // The lines of so many records. The state stays in place, and each record writes only the parts of it that are new:
@@ -120,7 +121,7 @@ fn put_records(
         label = label.next();
         from = from + 16;
         left = left - 1;
-        let change = change_unless(broken, core, trace, place);
+        let change = changes::change_at(broken, core, ThreadUsage::SLOTS, trace, place);
         match change {
             Change::Refused(why) => {
                 end = put_refused(out, second, why);
@@ -140,7 +141,7 @@ fn put_records(
                 let after = timer_afresh(timer);
                 core.timer = after;
                 let books = core.books;
-                let k = machine::slot(books::concerned(books, operation), ThreadUsage::SLOTS);
+                let k = slot(books::concerned(books, operation), ThreadUsage::SLOTS);
                 let usage = threads[k];
                 let entered = books::enter(books, usage, reading, operation);
                 match entered {
@@ -157,9 +158,9 @@ fn put_records(
                 }
             }
             Change::Report(thread) => {
-                let k = machine::slot(thread, ThreadUsage::SLOTS);
+                let k = slot(thread, ThreadUsage::SLOTS);
                 let usage = threads[k];
-                let told = machine::ending::reported(usage);
+                let told = machine::report_values(ThreadReport::of(usage));
                 end = put_told(out, second, told.x, told.y);
             }
             Change::Fresh(timer) => {

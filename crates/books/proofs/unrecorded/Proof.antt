@@ -1,4 +1,5 @@
 -- `unrecorded` tells of a running thread without a record.
+use mathlib.Core.Path.{refl}
 use Rattle.books.specs.Enter.{unrecorded}
 use borrow.Author.Needs.{needs}
 use Rattle.books.proofs.unrecorded.Statement.{statement}
@@ -6,7 +7,7 @@ use Rattle.books.proofs.unrecorded.Tie as tie
 
 returns : tie.Need-returns
 unfolding unrecorded
-returns c = search needs
+returns c = rw (c .no-thread .ensures) refl
 
 pub unrecorded-spec : {M : Type 1} → statement M
-unrecorded-spec = tie.close (tie.spec (λ c. search needs) returns)
+unrecorded-spec = tie.close (tie.spec (λ c κs. search needs) returns)

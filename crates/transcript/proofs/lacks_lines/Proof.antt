@@ -3,7 +3,7 @@ use Prim.Native.Nat.{_+_, _*_}
 use mathlib.Core.Path.{sym}
 use native.Mathlib.Omega.{arith}
 use borrow.Author.Tests.{lt-ltb}
-use Rattle.table.proofs.Outcomes.{same-test}
+use Rattle.error.proofs.Tests.{same-test}
 use Rattle.lines.specs.Text.{lineRoom}
 use Rattle.transcript.proofs.lacks_lines.Statement.{statement}
 use Rattle.transcript.proofs.lacks_lines.Tie as tie

@@ -5,7 +5,7 @@ use Rattle.table.proofs.tasks.asks_sample.Statement.{statement}
 use Rattle.table.proofs.tasks.asks_sample.Tie as tie
 
 returns : tie.Need-returns
-returns c = rw (c .asks-cycles .ensures, c .before .gaps-sum .ensures) refl
+returns c = rw (c .asks-cycles .ensures, c .before .whole .ensures) refl
 
 pub asks-sample-spec : {M : Type 1} → statement M
 asks-sample-spec = tie.close (tie.spec (λ c κs. search needs) (λ c κs. search needs) returns)

@@ -5,7 +5,7 @@ use Rattle.table.proofs.tasks.asks_setup.Statement.{statement}
 use Rattle.table.proofs.tasks.asks_setup.Tie as tie
 
 returns : tie.Need-returns
-returns c = rw (c .before .asks-nothing .ensures, c .before .before .good-period .ensures) refl
+returns c = rw (c .asks-nothing .ensures, c .before .bad-setup .ensures) refl
 
 pub asks-setup-spec : {M : Type 1} → statement M
 asks-setup-spec = tie.close (tie.spec (λ c κs. search needs) (λ c κs. search needs) returns)

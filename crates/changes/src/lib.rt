@@ -3,7 +3,7 @@ ghost use mathlib.Core.Path.{_≡_};
 ghost use mathlib.Core.Bool.{cond};
 ghost use Rattle.trace.specs.Decode.{decodeOf};
 ghost use Rattle.table.specs.declared.tasks.Task.the-variants as T;
-ghost use Rattle.changes.specs.Change.{ranChange, thenChange, sampledChange, announcedChange, setUpChange, taskChange, changeOf};
+ghost use Rattle.changes.specs.Change.{ranChange, thenChange, sampledChange, announcedChange, setUpChange, taskChange, recordChange, changeOf};
 use books::Operation;
 use clock::Announced;
 use clock::Gaps;
@@ -193,15 +193,22 @@ pub fn change_of(broken: bool, core: Core, slots: usize, decoded: Decoded) -> Ch
     }
 }
 
-// The same of the record at a place of a trace. It is taken apart where it is decoded: handed on, it would be copied.
+// The record at a place of a trace. It is taken apart where it is decoded: handed on, it would be copied.
+fn record_at(core: Core, slots: usize, trace: &[u8], at: usize) -> Change
+    ensures { λ r. ⌜ r ≡ recordChange core slots (decodeOf (now (trace .entry)) at) ⌝ }
+{
+    match trace::decode(trace, at) {
+        Decoded::Accepted(accepted) => task_change(core, slots, task_of(accepted)),
+        Decoded::Refused(_) => Change::Refused(Reason::BadRecord),
+    }
+}
+
+// What the record at a place of a trace changes.
 pub fn change_at(broken: bool, core: Core, slots: usize, trace: &[u8], at: usize) -> Change
     ensures { λ r. ⌜ r ≡ changeOf broken core slots (decodeOf (now (trace .entry)) at) ⌝ }
 {
     if broken {
         return Change::Refused(Reason::Malformed);
     }
-    match trace::decode(trace, at) {
-        Decoded::Accepted(accepted) => task_change(core, slots, task_of(accepted)),
-        Decoded::Refused(_) => Change::Refused(Reason::BadRecord),
-    }
+    record_at(core, slots, trace, at)
 }

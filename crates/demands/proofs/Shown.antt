@@ -11,6 +11,7 @@ use Rattle.books.specs.Stamp.{stampOf}
 use Rattle.books.specs.Entries.{runs, charged, withChange, onward, closeOf, stopOf, switchOf, altered, reopenOf, alterOf, enterOf}
 use Rattle.books.specs.Enter.{unrecorded, past, busy, entryOf, concerned}
 use Rattle.ledger.specs.Operate.{storedIn, operateOf}
+use Rattle.ledger.specs.Says.{answerSays}
 use Rattle.ledger.specs.Sums.{sumOf}
 use Rattle.ledger.specs.Threads as ledger
 use Rattle.table.specs.Task.{taskOf, askedBy}
@@ -21,7 +22,7 @@ use Rattle.demands.specs.Trace.{happened, seen, watchAll, FairTrace}
 use Rattle.demands.specs.Shown.{Shown}
 
 pub shown : Shown
-unfolding enabled accumulated averageCycles cycle runN wraps goodPeriod inRange ranOf wellFormed sampleOf announceOf stampOf runs charged withChange onward closeOf stopOf switchOf altered reopenOf alterOf enterOf unrecorded past busy entryOf concerned storedIn operateOf sumOf ledger.closesNow ledger.begins ledger.openAfter ledger.trackedAfter taskOf askedBy malformed stepOf afterTouch happened seen watchAll FairTrace closes rises tooMany full announceRows lastRows recordRows doneBy acceptedBy
+unfolding enabled accumulated averageCycles cycle runN wraps goodPeriod inRange ranOf wellFormed sampleOf announceOf stampOf runs charged withChange onward closeOf stopOf switchOf altered reopenOf alterOf enterOf unrecorded past busy entryOf concerned storedIn operateOf sumOf ledger.closesNow ledger.begins ledger.openAfter ledger.trackedAfter taskOf askedBy malformed stepOf afterTouch happened seen watchAll FairTrace closes rises tooMany full announceRows lastRows recordRows answerSays doneBy acceptedBy
 shown = record {
   printed-fair = (omega arith, (omega arith, (omega arith, (omega arith, (omega arith, (omega arith, (omega arith, (omega arith, (omega arith, (omega arith, tt))))))))));
   printed-reads = (refl, refl);

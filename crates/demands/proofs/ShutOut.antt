@@ -17,6 +17,7 @@ use Rattle.books.specs.Stamp.{stampOf}
 use Rattle.books.specs.Entries.{runs, charged, withChange, onward, closeOf, stopOf, switchOf, altered, reopenOf, alterOf, enterOf}
 use Rattle.books.specs.Enter.{unrecorded, past, busy, entryOf, concerned}
 use Rattle.ledger.specs.Operate.{storedIn, recordOf, operateOf}
+use Rattle.ledger.specs.Says.{answerSays}
 use Rattle.ledger.specs.Sums.{sumOf}
 use Rattle.ledger.specs.Threads as ledger
 use Rattle.trace.specs.declared.Record.the-variants as K
@@ -42,7 +43,7 @@ unfolding goodPeriod
 ten = refl
 
 pub shut-out : ShutOut
-unfolding enabled accumulated averageCycles cycle runN wraps goodPeriod inRange ranOf wellFormed sampleOf announceOf stampOf runs charged withChange onward closeOf stopOf switchOf altered reopenOf alterOf enterOf unrecorded past busy entryOf concerned storedIn operateOf sumOf ledger.closesNow ledger.begins ledger.openAfter ledger.trackedAfter taskOf askedBy malformed stepOf afterTouch happened seen watchAll FairTrace closes rises tooMany full announceRows lastRows recordRows doneBy acceptedBy
+unfolding enabled accumulated averageCycles cycle runN wraps goodPeriod inRange ranOf wellFormed sampleOf announceOf stampOf runs charged withChange onward closeOf stopOf switchOf altered reopenOf alterOf enterOf unrecorded past busy entryOf concerned storedIn operateOf sumOf ledger.closesNow ledger.begins ledger.openAfter ledger.trackedAfter taskOf askedBy malformed stepOf afterTouch happened seen watchAll FairTrace closes rises tooMany full announceRows lastRows recordRows answerSays doneBy acceptedBy
 shut-out = record {
   refuser-falls = λ law.
       let accepted = law .exactly (handed.timed (handed.counter 10 10 false 0) (handed.clock 4 0 0 0)) (D.Accepted (K.Run 0)) .accepted .1 (refl, (refl, (refl, (refl, (refl, (refl, (refl, (refl, tt)))))))) in

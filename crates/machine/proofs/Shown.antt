@@ -12,11 +12,12 @@ use Rattle.table.specs.Task.{taskOf, askedBy}
 use Rattle.table.specs.Table.{malformed}
 use Rattle.books.specs.Laws.{closes, rises, tooMany, full}
 use Rattle.ledger.specs.Operate.{storedIn, operateOf, reportOf}
+use Rattle.ledger.specs.Says.{answerSays}
 use Rattle.machine.specs.Step.{announceRows, lastRows, recordRows, afterTouch, doneBy, acceptedBy, stepOf}
 use Rattle.machine.specs.Shown.{Shown}
 
 pub shown : Shown
-unfolding enabled accumulated averageCycles cycle runN goodPeriod inRange wellFormed announceOf stampOf runs charged withChange onward closeOf stopOf switchOf altered reopenOf alterOf enterOf unrecorded past busy entryOf concerned taskOf askedBy malformed closes rises tooMany full storedIn operateOf reportOf announceRows lastRows recordRows afterTouch doneBy acceptedBy stepOf
+unfolding enabled accumulated averageCycles cycle runN goodPeriod inRange wellFormed announceOf stampOf runs charged withChange onward closeOf stopOf switchOf altered reopenOf alterOf enterOf unrecorded past busy entryOf concerned taskOf askedBy malformed closes rises tooMany full storedIn operateOf reportOf announceRows lastRows recordRows afterTouch doneBy acceptedBy answerSays stepOf
 shown = record {
   cycles-fit = refl;
   cycles-above = refl;

@@ -17,13 +17,14 @@ use Rattle.books.specs.declared.Operation.{Operation}
 use Rattle.books.specs.Stamp.{stampOf}
 use Rattle.books.specs.Entries.{enterOf}
 use Rattle.books.specs.Enter.{concerned}
-use Rattle.books.proofs.Entering.{entry-is}
 use Rattle.books.proofs.Refusing.{EntryBy, entry-by}
 use Rattle.ledger.specs.Operate.{usageOf, storedIn, operateOf, reportOf}
+use Rattle.ledger.specs.Says.{answerSays}
 use Rattle.trace.specs.declared.Decoded.{Decoded}
 use Rattle.trace.specs.declared.Decoded.the-variants as D
 use Rattle.table.specs.declared.Core.{Core}
 use Rattle.table.specs.declared.Reason.{Reason}
+use Rattle.table.specs.declared.Reason.the-variants as Why
 use Rattle.table.specs.declared.tasks.Asked.{Asked}
 use Rattle.table.specs.declared.tasks.Task.{Task}
 use Rattle.table.specs.declared.tasks.Task.the-variants as T
@@ -33,9 +34,9 @@ use Rattle.table.specs.Table.{malformed, table}
 use Rattle.changes.specs.declared.Change.{Change}
 use Rattle.changes.specs.declared.Change.the-variants as X
 use Rattle.changes.specs.Change.{ranChange, sampledChange, announcedChange, setUpChange, effectChange, taskChange, recordChange, changeOf}
-use Rattle.table.specs.Says.{values, announcementTells}
+use Rattle.table.specs.Says.{announcementTells}
 use Rattle.machine.specs.declared.Machine.{Machine}
-use Rattle.machine.specs.Step.{coreOf, slotsOf, announceRows, fullRow, lastRows, recordRows, afterTouch, withTimer, Done, answers, closed, doneBy, acceptedBy, accepted, refused, stepOf}
+use Rattle.machine.specs.Step.{coreOf, slotsOf, announceRows, fullRow, lastRows, recordRows, afterTouch, withTimer, answers, afterOperation, doneBy, acceptedBy, accepted, refused, stepOf}
 use Rattle.machine.proofs.Making.{turned, operationTells, enteredBy, reportedBy, madeOf}
 use Rattle.machine.proofs.Passed.{Passed, passed}
 use Rattle.machine.proofs.Accepting.{recorded-of, announcement-is, Accepts, let-through}
@@ -55,18 +56,15 @@ module _ (m : Machine) where
   unfolding operateOf askedBy
   operation-stored g op whole p = rw (recorded-of c (slotsOf m) (p .known) whole, p .named, p .free) refl
 
-  -- what an operation comes to, from what its entry does
-  abbrev doneWith : Gaps → Operation → Entered → Done
-  doneWith g op x = answers (values (closed m op g) 0) (record { ready = m .ready; timer = sampleValue (m .timer) g .timer; ledger = storedIn (m .ledger) (concerned (m .ledger .books) op) x .ledger })
-
-  stored-made : (g : Gaps) (op : Operation) (x : Entered) → enterOf (m .ledger .books) (usageOf (m .ledger) op) (stampOf (readingOf (m .timer) g)) op ≡ x → EntryBy (fullRow m op g .0) x → enteredBy m (sampleValue (m .timer) g .timer) (storedIn (m .ledger) (concerned (m .ledger .books) op) x) ≡ inOrder (fullRow m op g ∷ []) (refused m (doneWith g op x)) (accepted (doneWith g op x))
-  unfolding storedIn operationTells EntryBy afterTouch
-  stored-made g op (E.Accepted e) q fits = rw (fits, entry-is _ _ _ op e q .cycles) refl
-  stored-made g op (E.Refused why) q above = rw (above .1) refl
+  -- an entry is stored, or refused by the last row
+  stored-made : (g : Gaps) (row : Row Reason) (k : ℕ) (x : Entered) → row .1 ≡ Why.WontFit → EntryBy (row .0) x → let l = storedIn (m .ledger) k x in enteredBy m (sampleValue (m .timer) g .timer) l ≡ inOrder (row ∷ []) (refused m (afterOperation m g l)) (accepted (afterOperation m g l))
+  unfolding storedIn operationTells answerSays EntryBy afterTouch
+  stored-made g row k (E.Accepted e) why fits = rw fits refl
+  stored-made g row k (E.Refused r) why above = rw (above .1, why) refl
 
   pub operation-made : (g : Gaps) (op : Operation) → malformed c (slotsOf m) ≡ false → Passed c (asks (T.Sample g (W.Operate op))) → enteredBy m (sampleValue (m .timer) g .timer) (operateOf (m .ledger) (sampleValue (m .timer) g .reading) op) ≡ inOrder (lastRows m (T.Sample g (W.Operate op))) (refused m (doneBy m (T.Sample g (W.Operate op)))) (accepted (doneBy m (T.Sample g (W.Operate op))))
   unfolding lastRows doneBy
-  operation-made g op whole p = rw (operation-stored g op whole p) (stored-made g op _ refl (entry-by _ _ _ op))
+  operation-made g op whole p = rw (operation-stored g op whole p) (stored-made g (fullRow m op g) _ _ refl (entry-by _ _ _ op))
 
   announced-made : (x : Announced) → announceOf (m .timer) ≡ x → madeOf m (announcedChange x) ≡ inOrder (announceRows x) (refused m (doneBy m T.Announce)) (accepted (doneBy m T.Announce))
   unfolding madeOf announcedChange announceRows afterTouch doneBy

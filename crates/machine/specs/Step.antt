@@ -15,9 +15,11 @@ use Rattle.clock.specs.Announce.{announcement, announceOf}
 use Rattle.clock.specs.Says.{noTimer}
 use Rattle.books.specs.declared.Operation.{Operation}
 use Rattle.books.specs.Stamp.{stampOf}
-use Rattle.books.specs.Laws.{closedCycles, full}
+use Rattle.books.specs.Laws.{full}
+use Rattle.ledger.specs.declared.Ledgered.{Ledgered}
 use Rattle.ledger.specs.declared.ThreadReport.{ThreadReport}
 use Rattle.ledger.specs.Operate.{freshOf, recordOf, usageOf, operateOf, reportValue}
+use Rattle.ledger.specs.Says.{answerSays}
 use Rattle.trace.specs.declared.Decoded.{Decoded}
 use Rattle.trace.specs.declared.Decoded.the-variants as D
 use Rattle.table.specs.declared.Core.{Core}
@@ -94,13 +96,9 @@ pub record Done : Type 0 where
 abbrev pub answers : Values → Machine → Done
 answers told after = record { values = told; machine = after }
 
--- the cycles that an operation closes, at the stamp of its own reading
-abbrev pub closed : Machine → Operation → Gaps → ℕ
-closed m op g = closedCycles (m .ledger .books) (usageOf (m .ledger) op) (stampOf (readingOf (m .timer) g)) op
-
--- the sample's counter and clock, and the ledger's own step at its reading
-abbrev pub afterOperation : Machine → Operation → Gaps → Machine
-afterOperation m op g = record { ready = m .ready; timer = sampleValue (m .timer) g .timer; ledger = operateOf (m .ledger) (sampleValue (m .timer) g .reading) op .ledger }
+-- the ledger's own step at the sample's reading: the cycles that it closes, and the sample's counter and clock beside its ledger
+abbrev pub afterOperation : Machine → Gaps → Ledgered → Done
+afterOperation m g l = answers (values (answerSays (l .answer) .value) 0) (record { ready = m .ready; timer = sampleValue (m .timer) g .timer; ledger = l .ledger })
 
 -- Report: total, average.
 abbrev pub reportTells : ThreadReport → Values
@@ -110,7 +108,7 @@ reportTells r = values (r .total .0) (r .average .0)
 unfoldable pub doneBy : Machine → Task → Done
 doneBy m (T.Run p) = answers (values 0 0) (withTimer m (record { counter = runN p (m .timer .counter); clock = m .timer .clock }))
 doneBy m (T.Sample g W.Tell) = answers (sampleTells (sampleValue (m .timer) g)) (withTimer m (sampleValue (m .timer) g .timer))
-doneBy m (T.Sample g (W.Operate op)) = answers (values (closed m op g) 0) (afterOperation m op g)
+doneBy m (T.Sample g (W.Operate op)) = afterOperation m g (operateOf (m .ledger) (sampleValue (m .timer) g .reading) op)
 doneBy m T.Announce = answers (announcementTells (announcement (m .timer))) (withTimer m (announcement (m .timer) .timer))
 doneBy m (T.Report i) = answers (reportTells (reportValue (recordOf (m .ledger) i))) m
 doneBy m (T.Setup s) = answers (values 0 0) (record { ready = true; timer = setup (s .period) (s .tick); ledger = freshOf (slotsOf m) })

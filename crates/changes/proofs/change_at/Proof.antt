@@ -1,6 +1,6 @@
--- `change_at` decodes the record, and hands on what it asks for, unless the state is malformed.
+-- `change_at` hands on what the record there changes, unless the state is malformed.
 use mathlib.Core.Path.{refl}
-use Rattle.changes.specs.Change.{recordChange, changeOf}
+use Rattle.changes.specs.Change.{changeOf}
 use borrow.Author.Needs.{needs}
 use Rattle.changes.proofs.change_at.Statement.{statement}
 use Rattle.changes.proofs.change_at.Tie as tie
@@ -10,12 +10,8 @@ unfolding changeOf
 returns c = rw (c .if1 .taken) refl
 
 returns-2 : tie.Need-returns-2
-unfolding recordChange changeOf
-returns-2 c = simp (c .before .before .before .before .before .before .if1 .left, ← c .before .before .before .before .before .decode .ensures, c .before .before .before .accepted .given .1, ← c .before .task-of .ensures) (c .task-change .ensures)
-
-returns-3 : tie.Need-returns-3
-unfolding recordChange changeOf
-returns-3 c = rw (c .before .before .before .if1 .left, ← c .before .before .decode .ensures, c .enum-told .given .1) refl
+unfolding changeOf
+returns-2 c = rw (c .before .if1 .left) (c .record-at .ensures)
 
 pub change-at-spec : {M : Type 1} → statement M
-change-at-spec = tie.close (tie.spec returns (λ c κs. search needs) (λ c. search needs) (λ c κs. search needs) (λ c κs. search needs) (λ c. search needs) returns-2 returns-3)
+change-at-spec = tie.close (tie.spec returns (λ c κs. search needs) returns-2)

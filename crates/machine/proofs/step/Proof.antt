@@ -1,6 +1,11 @@
 -- `step`: what the record changes, and the change made, is 01's step.
 use mathlib.Core.Path.{refl, sym, ap, _∙_}
+use mathlib.Core.Bool.{true}
 use lib.ListN.{length-map}
+use Rattle.ledger.specs.declared.Ledger.{Ledger}
+use Rattle.ledger.specs.Operate.{freshOf}
+use Rattle.table.specs.declared.Outcome.the-variants as O
+use Rattle.table.specs.Says.{values}
 use Rattle.machine.proofs.Making.{operationTells, reportedBy, madeOf}
 use Rattle.machine.proofs.Tying.{Turn, step-made}
 use borrow.Author.Needs.{needs}
@@ -36,15 +41,21 @@ returns-5 c = rw (c .turned-away2 .ensures, c .before .before .before .with-ledg
 
 returns-6 : tie.Need-returns-6
 unfolding madeOf operationTells reportedBy
-returns-6 c = rw (c .accepted4 .ensures, c .before .report-values .ensures, step-made (turn (c .before .before .before .before .before .before .before .before .before)), c .before .before .before .before .before .before .before .change5 .given .1, ← (c .before .before .before .before .before .report .ensures), c .before .before .before .report2 .given .1) refl
+returns-6 c =
+    rw (c .accepted4 .ensures, c .before .report-values .ensures)
+    (sym (step-made (turn (c .before .before .before .before .before .before .before .before .before)) ∙ ap (madeOf _) (c .before .before .before .before .before .before .before .change5 .given .1) ∙ ap (reportedBy _) (sym (c .before .before .before .before .before .report .ensures) ∙ c .before .before .before .report2 .given .1)))
 
 returns-7 : tie.Need-returns-7
 unfolding madeOf operationTells reportedBy
-returns-7 c = rw (c .turned-away3 .ensures, step-made (turn (c .before .before .before .before .before .before .before)), c .before .before .before .before .before .change5 .given .1, ← (c .before .before .before .report .ensures), c .before .enum-told2 .given .1) refl
+returns-7 c = c .turned-away3 .ensures ∙ sym (step-made (turn (c .before .before .before .before .before .before .before)) ∙ ap (madeOf _) (c .before .before .before .before .before .change5 .given .1) ∙ ap (reportedBy _) (sym (c .before .before .before .report .ensures) ∙ c .before .enum-told2 .given .1))
 
 returns-8 : tie.Need-returns-8
 unfolding madeOf operationTells reportedBy
-returns-8 c = rw (c .accepted5 .ensures, step-made (turn (c .before .before .before .before .before)), c .before .before .before .change6 .given .1, c .before .fresh .ensures, turn (c .before .before .before .before .before) .table) refl
+returns-8 c =
+    let t = turn (c .before .before .before .before .before) in
+    c .accepted5 .ensures ∙
+    (ap (λ (l : Ledger). record { outcome = O.Accepted (values 0 0); machine = record { ready = true; timer = c .before .before .before .change6 .given .0 .0; ledger = l } }) (c .before .fresh .ensures ∙ ap freshOf (sym (t .table))) ∙
+    sym (step-made t ∙ ap (madeOf _) (c .before .before .before .change6 .given .1)))
 
 pub step-spec : {M : Type 1} → statement M
 step-spec =

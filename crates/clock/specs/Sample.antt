@@ -26,6 +26,7 @@ use Rattle.clock.specs.Timer.{accountedFor, wellFormed}
 abbrev pub gaps : ℕ → ℕ → ℕ → Gaps
 gaps p q r = record { p = p; q = q; r = r }
 
+-- all the cycles of a sample
 abbrev pub wholeOf : Gaps → ℕ
 wholeOf g = sampleCycles (g .p) (g .q) (g .r)
 

@@ -4,6 +4,7 @@ use Rattle.usage.specs.Leaves.{enabled, accumulated, averageCycles}
 use Rattle.counter.specs.Cycle.{cycle, runN}
 use Rattle.counter.specs.Entries.{goodPeriod, inRange}
 use Rattle.clock.specs.Timer.{wellFormed}
+use Rattle.clock.specs.Sample.{sampleOf}
 use Rattle.clock.specs.Announce.{announceOf}
 use Rattle.books.specs.Stamp.{stampOf}
 use Rattle.books.specs.Entries.{runs, charged, withChange, onward, closeOf, stopOf, switchOf, altered, reopenOf, alterOf, enterOf}
@@ -17,7 +18,7 @@ use Rattle.machine.specs.Step.{announceRows, lastRows, recordRows, after
 use Rattle.machine.specs.Shown.{Shown}
 
 pub shown : Shown
-unfolding enabled accumulated averageCycles cycle runN goodPeriod inRange wellFormed announceOf stampOf runs charged withChange onward closeOf stopOf switchOf altered reopenOf alterOf enterOf unrecorded past busy entryOf concerned taskOf askedBy malformed closes rises tooMany full storedIn operateOf reportOf announceRows lastRows recordRows afterTouch doneBy acceptedBy answerSays stepOf
+unfolding enabled accumulated averageCycles cycle runN goodPeriod inRange wellFormed sampleOf announceOf stampOf runs charged withChange onward closeOf stopOf switchOf altered reopenOf alterOf enterOf unrecorded past busy entryOf concerned taskOf askedBy malformed closes rises tooMany full storedIn operateOf reportOf announceRows lastRows recordRows afterTouch doneBy acceptedBy answerSays stepOf
 shown = record {
   cycles-fit = refl;
   cycles-above = refl;
@@ -96,6 +97,8 @@ shown = record {
   operate-malformed = refl;
   report-malformed = refl;
   announce-malformed = refl;
+  report-unknown = refl;
+  sample-crowded = refl;
   operate-past = refl;
   operate-running = refl;
 }

@@ -3,16 +3,17 @@ use Prim.Native.Nat.{_-_, ℕ, _+_}
 use mathlib.Core.Path.{_≡_}
 use mathlib.Core.Bool.{Bool, true, false}
 use mathlib.Core.List.{[], _∷_}
-use Rattle.error.specs.declared.Refusal.the-variants.{Invalid, BadThread, Already, Overflow}
+use Rattle.error.specs.declared.Refusal.the-variants.{Invalid, BadThread, Again, Already, Overflow}
 use Rattle.error.specs.Numbers.{max32, max64}
 use Rattle.usage.specs.declared.ThreadUsage.{ThreadUsage}
 use Rattle.usage.specs.Record.{newIdle}
 use Rattle.counter.specs.declared.Counter.{Counter}
 use Rattle.clock.specs.declared.Gaps.{Gaps}
 use Rattle.clock.specs.declared.Clock.{Clock}
+use Rattle.clock.specs.declared.Sampled.the-variants as S
 use Rattle.clock.specs.declared.Announced.the-variants as A
 use Rattle.clock.specs.Announce.{announceOf}
-use Rattle.clock.specs.Sample.{gaps}
+use Rattle.clock.specs.Sample.{gaps, sampleOf}
 use Rattle.books.specs.declared.Books.{Books}
 use Rattle.books.specs.Enter.{nothingBooked}
 use Rattle.books.specs.declared.Operation.the-variants as P
@@ -201,5 +202,7 @@ pub record Shown : Type 0 where
   pub operate-malformed : operateOf lost (record { 0 = 0 }) (P.Start 2) .answer ≡ N.Refused Invalid
   pub report-malformed : reportOf lost 2 ≡ R.Refused Invalid
   pub announce-malformed : announceOf (record { counter = counter 10 0 false max64; clock = clock 1 (max32 + 31) 30 0 }) ≡ A.Refused Invalid
+  pub report-unknown : reportOf (running 0 0 newIdle .ledger) 2 ≡ R.Refused BadThread
+  pub sample-crowded : sampleOf (timed (counter 10 10 false max64) (clock 4 0 0 (max32 - 18)) .timer) (gaps 1 0 0) ≡ S.Refused Again
   pub operate-past : operateOf (running 0 0 newIdle .ledger) (record { 0 = 0 }) (P.Start 2) .answer ≡ N.Refused BadThread
   pub operate-running : operateOf (running 0 0 newIdle .ledger) (record { 0 = 0 }) (P.Start 1) .answer ≡ N.Refused Already

@@ -4,6 +4,7 @@
 all: kit
 	rt check
 	rt staticlib tickclock
+	sh tests/same.sh
 
 help:
 	@awk -F ' *[|] *' '/^[|] `make/ { gsub(/`/, ""); printf "%-26s %s (%s)\n", $$2, $$3, $$4 }' README.md
@@ -37,12 +38,9 @@ qemu: kit
 test: kit
 	rt fmt --check
 	sh tests/public.sh
+	sh tests/specs.sh
 	sh tests/units.sh
-	rt check tickclock replay replay_long
-	sh tests/c/check.sh
-	sh tests/replay.sh
-	sh tests/tickclock.sh
-	sh tests/reference.sh
+	sh tests/programs.sh
 	rt ci
 
 # Goes on comparing with the reference until so many records were compared; another SEED makes other traces.

@@ -7,8 +7,9 @@ cd "$(dirname "$0")/.."
 records=${1:-1} seed=${2:-1} scale=${3:-1}
 command -v cargo > /dev/null || { echo 'reference: skipped, since there is no cargo here'; exit 0; }
 for program in replay replay_long; do
-    [ -x "target/bin/$program" ] || { echo "reference: there is no target/bin/$program; rt check $program builds it"; exit 1; }
+    sh tools/built.sh "$program" > /dev/null || { echo "reference: $program is not built; sh tools/quick.sh $program builds it"; exit 1; }
 done
+replay=$(sh tools/built.sh replay) replay_long=$(sh tools/built.sh replay_long)
 room=$(mktemp -d)
 trap 'rm -rf "$room"' EXIT
 for step in 'build --release' test; do
@@ -38,13 +39,13 @@ while [ "$compared" -lt "$records" ]; do
     rm -rf "$room/round"
     "$made/traces" "$seed" 2000 "$room/round" "$scale"
     for trace in "$room"/round/*; do
-        $before target/bin/replay "$trace" > "$room/ours"
+        $before "$replay" "$trace" > "$room/ours"
         "$made/reference" "$trace" > "$room/theirs"
         cmp -s "$room/ours" "$room/theirs" || differ "$trace"
     done
     # Behind one another they are a trace far above 01's limit.
     cat "$room"/round/* > "$room/all"
-    $before target/bin/replay_long < "$room/all" > "$room/ours"
+    $before "$replay_long" < "$room/all" > "$room/ours"
     "$made/reference" --long "$room/all" > "$room/theirs"
     cmp -s "$room/ours" "$room/theirs" || differ "$room/all"
     traces=$((traces + 2000)) compared=$((compared + $(wc -c < "$room/all") / 16)) seed=$((seed + 1))

@@ -1,10 +1,10 @@
 #!/bin/sh
-# Runs the programs replay and replay_long, which `rt check replay replay_long` builds, and holds what they write to document 01.
+# Runs the programs replay and replay_long as they were built, proved or in haste, and holds what they write to document 01.
 set -eu
 cd "$(dirname "$0")/.."
 root=$(pwd)
 for program in replay replay_long; do
-    [ -x "target/bin/$program" ] || { echo "replay: there is no target/bin/$program; rt check $program builds it"; exit 1; }
+    sh tools/built.sh "$program" > /dev/null || { echo "replay: $program is not built; sh tools/quick.sh $program builds it"; exit 1; }
 done
 room=$(mktemp -d)
 trap 'rm -rf "$room"' EXIT

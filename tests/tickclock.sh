@@ -3,7 +3,7 @@
 set -eu
 cd "$(dirname "$0")/.."
 root=$(pwd)
-[ -x target/bin/replay ] && [ -x target/bin/replay_long ] || { echo "tickclock: rt check replay replay_long builds what is tried here"; exit 1; }
+sh tools/built.sh replay > /dev/null && sh tools/built.sh replay_long > /dev/null || { echo "tickclock: make replay replay_long builds what is tried here"; exit 1; }
 room=$(mktemp -d)
 trap 'rm -rf "$room"' EXIT
 printed=$root/traces/printed.trace

@@ -1,8 +1,8 @@
 #!/bin/sh
-# run.sh PROGRAM [ARGUMENT..]: runs a program of target/bin, or an x86-64 one by its path, under the kit's emulator where this is no x86-64.
+# run.sh PROGRAM [ARGUMENT..]: runs a program that was built, or an x86-64 one by its path, under the kit's emulator where this is no x86-64.
 set -eu
 here=$(cd "$(dirname "$0")" && pwd)
-case $1 in */*) program=$1 ;; *) program=$here/../target/bin/$1 ;; esac
+case $1 in */*) program=$1 ;; *) program=$(sh "$here/built.sh" "$1") || { echo "run.sh: $1 is not built" >&2; exit 1; } ;; esac
 shift
 if [ "$(uname -m)" = x86_64 ]; then
     exec "$program" "$@"

@@ -22,7 +22,8 @@ use Rattle.books.specs.declared.Entered.{Entered}
 use Rattle.books.specs.declared.Entered.the-variants as E
 use Rattle.books.specs.declared.Operation.{Operation}
 use Rattle.books.specs.declared.Operation.the-variants as O
-use Rattle.books.specs.Entries.{stopped, runs, openCycles, openOf, shutOf, entered, charged, withChange, onward, closeOf, stopOf, switchOf, altered, reopenOf, alterOf, enterOf}
+use Rattle.books.specs.Entries.{openOf, shutOf, entered, charged, withChange, onward, closeOf, stopOf, switchOf, altered, reopenOf, alterOf, enterOf}
+use Rattle.books.specs.Running.{stopped, isRunning, openCycles}
 use Rattle.books.specs.Laws.{closes, flagAfter, rises, stampAfter, runningAfter, EntryIs}
 
 -- what holds of each accepted case, with how it came about, holds of the outcome
@@ -144,8 +145,8 @@ no-rise : (on : Bool) → on && not on ≡ false
 no-rise true = refl
 no-rise false = refl
 
-runs-number : (b : Books) (i : ℕ) → runs b i ≡ true → i ≡ b .running
-unfolding runs
+runs-number : (b : Books) (i : ℕ) → isRunning b i ≡ true → i ≡ b .running
+unfolding isRunning
 runs-number b i = by-test (stopped b)
   where
     by-test : (none : Bool) → not none && eqb (b .running) i ≡ true → i ≡ b .running
@@ -154,7 +155,7 @@ runs-number b i = by-test (stopped b)
 
 -- enable and disable, as one: `op` is the operation toward the flag `on`
 module _ (b : Books) (u : ThreadUsage) (now i : ℕ) (on : Bool) (op : Operation)
-    (closing : closes b u op ≡ not (Bool·beq (u .«track_usage») on) && runs b i)
+    (closing : closes b u op ≡ not (Bool·beq (u .«track_usage») on) && isRunning b i)
     (flagging : flagAfter op (u .«track_usage») ≡ on)
     (rising : rises op (u .«track_usage») ≡ on && not (u .«track_usage»))
     (stamping : stampAfter b u now op ≡ cond (closes b u op) now (b .stamp))
@@ -168,7 +169,7 @@ module _ (b : Books) (u : ThreadUsage) (now i : ℕ) (on : Bool) (op : Operation
       rw (← is)
       (idle-is b u now op none (flagging ∙ sym flag) (rising ∙ (rw flag (no-rise on))) (stamping ∙ simp none) staying)
 
-  other : Bool·beq (u .«track_usage») on ≡ false → runs b i ≡ false → withChange (altered u on) (λ v. entered 0 b v) ≡ E.Accepted e → EntryIs b u now op e
+  other : Bool·beq (u .«track_usage») on ≡ false → isRunning b i ≡ false → withChange (altered u on) (λ v. entered 0 b v) ≡ E.Accepted e → EntryIs b u now op e
   other t r =
       change-by (λ (o : Entered). o ≡ E.Accepted e → EntryIs b u now op e) (altered u on) (λ v. entered 0 b v)
       (λ why q. clash (cc))
@@ -187,7 +188,7 @@ module _ (b : Books) (u : ThreadUsage) (now i : ℕ) (on : Bool) (op : Operation
         running = sym staying;
       }))
 
-  reopened : Bool·beq (u .«track_usage») on ≡ false → runs b i ≡ true → reopenOf b u now i on ≡ E.Accepted e → EntryIs b u now op e
+  reopened : Bool·beq (u .«track_usage») on ≡ false → isRunning b i ≡ true → reopenOf b u now i on ≡ E.Accepted e → EntryIs b u now op e
   unfolding reopenOf
   reopened t r =
       onward-by (λ (o : Entered). o ≡ E.Accepted e → EntryIs b u now op e) (closeOf b u now)
@@ -214,9 +215,9 @@ module _ (b : Books) (u : ThreadUsage) (now i : ℕ) (on : Bool) (op : Operation
 
   alter-entry : alterOf b u now i on ≡ E.Accepted e → EntryIs b u now op e
   unfolding alterOf
-  alter-entry = by-tests (Bool·beq (u .«track_usage») on) refl (runs b i) refl
+  alter-entry = by-tests (Bool·beq (u .«track_usage») on) refl (isRunning b i) refl
     where
-      by-tests : (t : Bool) → Bool·beq (u .«track_usage») on ≡ t → (r : Bool) → runs b i ≡ r → cond t (entered 0 b u) (cond r (reopenOf b u now i on) (withChange (altered u on) (λ v. entered 0 b v))) ≡ E.Accepted e → EntryIs b u now op e
+      by-tests : (t : Bool) → Bool·beq (u .«track_usage») on ≡ t → (r : Bool) → isRunning b i ≡ r → cond t (entered 0 b u) (cond r (reopenOf b u now i on) (withChange (altered u on) (λ v. entered 0 b v))) ≡ E.Accepted e → EntryIs b u now op e
       by-tests true t r p q = as-wanted t q
       by-tests false t true r q = reopened t r q
       by-tests false t false r q = other t r q
@@ -237,5 +238,5 @@ entry-is b u now (O.Start i) e q =
     rw (← is) (record { cycles = refl; machine = sym (add-zero _); total = nothing-added _ (u .«track_usage»); flag = refl; windows = sym (add-zero _); stamp = refl; running = refl })
 entry-is b u now (O.Switch i) e q = switch-is b u now i e q
 entry-is b u now O.Stop e q = stop-is b u now e q
-entry-is b u now (O.Enable i) e q = alter-entry b u now i true (O.Enable i) (ap (λ (x : Bool). x && runs b i) (beq-true (u .«track_usage»))) refl refl refl refl e q
-entry-is b u now (O.Disable i) e q = alter-entry b u now i false (O.Disable i) (ap (λ (x : Bool). x && runs b i) (beq-false (u .«track_usage»))) refl refl refl refl e q
+entry-is b u now (O.Enable i) e q = alter-entry b u now i true (O.Enable i) (ap (λ (x : Bool). x && isRunning b i) (beq-true (u .«track_usage»))) refl refl refl refl e q
+entry-is b u now (O.Disable i) e q = alter-entry b u now i false (O.Disable i) (ap (λ (x : Bool). x && isRunning b i) (beq-false (u .«track_usage»))) refl refl refl refl e q

@@ -16,9 +16,9 @@ use Rattle.books.specs.declared.Entry.{Entry}
 use Rattle.books.specs.declared.Entered.{Entered}
 use Rattle.books.specs.declared.Entered.the-variants as E
 use Rattle.books.specs.declared.Operation.{Operation}
-use Rattle.books.specs.Stamp.{stampOf}
-use Rattle.books.specs.Entries.{openCycles, shutOf, entered, charged, withChange, onward, closeOf, altered, reopenOf, runs, alterOf, enterOf}
-use Rattle.books.specs.Enter.{busy, entryOf}
+use Rattle.books.specs.Entries.{shutOf, entered, charged, withChange, onward, closeOf, altered, reopenOf, alterOf, enterOf}
+use Rattle.books.specs.Running.{openCycles, isRunning, stampOf, busy}
+use Rattle.books.specs.Enter.{entryOf}
 
 pub low-zero : (reading : ℕ) → reading % 2 ^ 32 ≡ 0 → stampOf reading ≡ 1
 unfolding stampOf
@@ -72,11 +72,11 @@ module _ (b : Books) (u : ThreadUsage) (now i : ℕ) (on : Bool) where
   as-wanted e = simp e
 
   module _ (n : Bool·beq (u .«track_usage») on ≡ false) where
-    pub of-running : runs b i ≡ true → alterOf b u now i on ≡ reopenOf b u now i on
+    pub of-running : isRunning b i ≡ true → alterOf b u now i on ≡ reopenOf b u now i on
     unfolding alterOf
     of-running r = simp (n, r)
 
-    module _ (r : runs b i ≡ false) where
+    module _ (r : isRunning b i ≡ false) where
       of-other : alterOf b u now i on ≡ withChange (altered u on) (λ v. entered 0 b v)
       unfolding alterOf
       of-other = simp (n, r)

@@ -1,13 +1,13 @@
 -- Each refusal of an entry, exactly.
 use Prim.Native.Nat.{ℕ, _+_}
-use mathlib.Core.Path.{_≡_, refl, ap, _∙_, subst}
+use mathlib.Core.Path.{_≡_, refl, sym, subst}
 use mathlib.Core.Bool.{Bool, true, false, cond, not, _&&_, _||_, Bool·beq}
 use mathlib.Core.List.{[], _∷_}
+use mathlib.Core.Logic.{inl, inr}
 use lib.Dec.{ltb, eqb}
 use Rattle.error.proofs.Tests.{or-none}
-use Rattle.error.proofs.Ordered.{carried}
-use Rattle.error.specs.declared.Refusal.the-variants.{Overflow}
-use Rattle.error.specs.Numbers.{ok, max32, max64, numberOf}
+use Rattle.error.specs.declared.Refusal.the-variants.{Already, Overflow}
+use Rattle.error.specs.Numbers.{max32, max64}
 use Rattle.error.specs.InOrder.{inOrder}
 use Rattle.usage.specs.declared.ThreadUsage.{ThreadUsage}
 use Rattle.usage.specs.declared.Changed.{Changed}
@@ -19,11 +19,11 @@ use Rattle.books.specs.declared.Entered.{Entered}
 use Rattle.books.specs.declared.Entered.the-variants as E
 use Rattle.books.specs.declared.Operation.{Operation}
 use Rattle.books.specs.declared.Operation.the-variants as O
-use Rattle.books.specs.Stamp.{stampOf}
-use Rattle.books.specs.Entries.{stopped, runs, openCycles, charged, withChange, onward, closeOf, stopOf, switchOf, altered, reopenOf, alterOf, enterOf}
-use Rattle.books.specs.Enter.{entryTests, entryOf}
-use Rattle.books.specs.Laws.{entryNumber, EveryEntry, closes, rises, tooMany, full}
-use Rattle.books.proofs.Entering.{close-is}
+use Rattle.books.specs.Entries.{charged, withChange, onward, closeOf, stopOf, switchOf, altered, reopenOf, alterOf, enterOf}
+use Rattle.books.specs.Running.{stopped, isRunning, busy, openCycles, stampOf}
+use Rattle.books.specs.Enter.{entryOf}
+use Rattle.books.specs.Laws.{EnteredIs, EveryEntry, closes, rises, tooMany, full}
+use Rattle.books.proofs.Entering.{close-is, entry-is}
 
 -- refused exactly where the test holds, and then since something does not fit
 unfoldable ChangeBy : Bool → Changed → Type 0
@@ -115,11 +115,11 @@ module _ (b : Books) (u : ThreadUsage) (now : ℕ) where
       same : (on : Bool) (v : ThreadUsage) → v .«track_usage» ≡ u .«track_usage» → v .«num_windows» ≡ u .«num_windows» → on && (not (v .«track_usage») && eqb (v .«num_windows») max32) ≡ on && window
       same on v p q = cc
 
-  alter-by : (i : ℕ) (on : Bool) → EntryBy (cond (Bool·beq (u .«track_usage») on) false (cond (runs b i) (over || ((on && window) || false)) ((on && window) || false))) (alterOf b u now i on)
+  alter-by : (i : ℕ) (on : Bool) → EntryBy (cond (Bool·beq (u .«track_usage») on) false (cond (isRunning b i) (over || ((on && window) || false)) ((on && window) || false))) (alterOf b u now i on)
   unfolding alterOf
   alter-by i on =
       either (Bool·beq (u .«track_usage») on) false _ _ _ (kept _)
-      (either (runs b i) _ _ _ _ (reopen-by i on)
+      (either (isRunning b i) _ _ _ _ (reopen-by i on)
       (change-then _ false _ _ (flag-by u on) (λ v. kept _)))
 
   pub entry-by : (op : Operation) → EntryBy (full b u now op) (enterOf b u now op)
@@ -127,7 +127,7 @@ module _ (b : Books) (u : ThreadUsage) (now : ℕ) where
   entry-by (O.Start i) = kept _
   entry-by (O.Switch i) = onward-then _ false _ _ stop-by (λ e p. kept _)
   entry-by O.Stop = subst (λ (t : Bool). EntryBy t (stopOf b u now)) (or-none (not (stopped b) && over)) stop-by
-  entry-by (O.Enable i) = subst (λ (t : Bool). EntryBy t (alterOf b u now i true)) (as-one (u .«track_usage») (runs b i) over (eqb (u .«num_windows») max32)) (alter-by i true)
+  entry-by (O.Enable i) = subst (λ (t : Bool). EntryBy t (alterOf b u now i true)) (as-one (u .«track_usage») (isRunning b i) over (eqb (u .«num_windows») max32)) (alter-by i true)
     where
       as-one : (f r o w : Bool) → cond (Bool·beq f true) false (cond r (o || ((not f && w) || false)) ((not f && w) || false)) ≡ ((not f && r) && o) || (not f && w)
       as-one true r o w = refl
@@ -136,7 +136,7 @@ module _ (b : Books) (u : ThreadUsage) (now : ℕ) where
       as-one false true false false = refl
       as-one false false o true = refl
       as-one false false o false = refl
-  entry-by (O.Disable i) = subst (λ (t : Bool). EntryBy t (alterOf b u now i false)) (as-one (u .«track_usage») (runs b i) over) (alter-by i false)
+  entry-by (O.Disable i) = subst (λ (t : Bool). EntryBy t (alterOf b u now i false)) (as-one (u .«track_usage») (isRunning b i) over) (alter-by i false)
     where
       as-one : (f r o : Bool) → cond (Bool·beq f false) false (cond r (o || false) false) ≡ ((f && r) && o) || false
       as-one false r o = refl
@@ -146,10 +146,9 @@ module _ (b : Books) (u : ThreadUsage) (now : ℕ) where
 
 pub every-entry : EveryEntry
 unfolding entryOf EntryBy
-every-entry b u reading op =
-    carried entryNumber E.Refused (enterOf b u (stampOf (reading .0)) op) (entryTests b op) ∙
-    ap (inOrder (entryTests b op) numberOf) (entered (full b u (stampOf (reading .0)) op) (enterOf b u (stampOf (reading .0)) op) (entry-by b u (stampOf (reading .0)) op))
+every-entry b u reading op = entered (busy b op) refl (enterOf b u (stampOf (reading .0)) op) refl (entry-by b u (stampOf (reading .0)) op)
   where
-    entered : (t : Bool) (x : Entered) → EntryBy t x → entryNumber x ≡ cond t (numberOf Overflow) ok
-    entered t (E.Accepted e) h = rw h refl
-    entered t (E.Refused why) h = rw (h .0, h .1) refl
+    entered : (t : Bool) → busy b op ≡ t → (x : Entered) → enterOf b u (stampOf (reading .0)) op ≡ x → EntryBy (full b u (stampOf (reading .0)) op) x → EnteredIs b u (stampOf (reading .0)) op (cond t (E.Refused Already) x)
+    entered true e x q h = inl (e, refl)
+    entered false e (E.Accepted entry) q h = (entry-is b u (stampOf (reading .0)) op entry q, (e, (h, tt)))
+    entered false e (E.Refused why) q h = inr (e, inl (h .1, sym (h .0)))

@@ -1,29 +1,22 @@
--- One operation's entry: the books and the one thread record that it concerns, before and after.
+-- Inside: one operation's entry, step by step as the code makes it. `EveryEntry` (Laws.antt) says what it does.
 use Prim.Native.Nat.{ℕ, _+_}
-use mathlib.Core.Bool.{Bool, true, false, cond, not, _&&_, Bool·beq}
+use mathlib.Core.Bool.{Bool, true, false, cond, Bool·beq}
 use mathlib.Core.List.{[], _∷_}
-use lib.Dec.{ltb, eqb}
+use lib.Dec.{ltb}
 use Rattle.error.specs.declared.Refusal.the-variants.{Overflow}
 use Rattle.error.specs.Numbers.{max64}
 use Rattle.error.specs.InOrder.{inOrder}
 use Rattle.usage.specs.declared.ThreadUsage.{ThreadUsage}
 use Rattle.usage.specs.declared.Changed.{Changed}
 use Rattle.usage.specs.declared.Changed.the-variants as C
-use Rattle.usage.specs.Leaves.{enabled, disabled, accumulated, elapsedCycles}
+use Rattle.usage.specs.Leaves.{enabled, disabled, accumulated}
 use Rattle.books.specs.declared.Books.{Books}
 use Rattle.books.specs.declared.Entry.{Entry}
 use Rattle.books.specs.declared.Entered.{Entered}
 use Rattle.books.specs.declared.Entered.the-variants as E
 use Rattle.books.specs.declared.Operation.{Operation}
 use Rattle.books.specs.declared.Operation.the-variants as O
-
--- stamp 0 is the only mark of stopped
-abbrev pub stopped : Books → Bool
-stopped b = eqb (b .stamp) 0
-
--- thread i is the one that runs
-unfoldable pub runs : Books → ℕ → Bool
-runs b i = not (stopped b) && eqb (b .running) i
+use Rattle.books.specs.Running.{openCycles, isRunning, stopped}
 
 -- a stretch is opened
 abbrev pub openOf : Books → ℕ → ℕ → Books
@@ -49,10 +42,6 @@ withChange (C.Refused why) go-on = E.Refused why
 unfoldable pub onward : Entered → (Entry → Entered) → Entered
 onward (E.Accepted e) go-on = go-on e
 onward (E.Refused why) go-on = E.Refused why
-
--- the open stretch's cycles were it closed now: its stamp difference
-abbrev pub openCycles : Books → ℕ → ℕ
-openCycles b now = elapsedCycles now (b .stamp)
 
 -- A closed stretch adds its stamp difference to the machine total and, if tracked, to the thread's. A sum that won't fit: -139.
 unfoldable pub closeOf : Books → ThreadUsage → ℕ → Entered
@@ -81,7 +70,7 @@ reopenOf b u now i on =
 unfoldable pub alterOf : Books → ThreadUsage → ℕ → ℕ → Bool → Entered
 alterOf b u now i on =
     cond (Bool·beq (u .«track_usage») on) (entered 0 b u)
-    (cond (runs b i) (reopenOf b u now i on)
+    (cond (isRunning b i) (reopenOf b u now i on)
     (withChange (altered u on) (λ v. entered 0 b v)))
 
 unfoldable pub enterOf : Books → ThreadUsage → ℕ → Operation → Entered

@@ -1,14 +1,12 @@
--- The laws of every entry: what it does to the books and to the one record, and exactly when it is refused.
+-- Believed: what every entry does to the books and to the one record, and exactly when it is refused.
 use Prim.Native.Nat.{ℕ, _+_}
 use mathlib.Core.Path.{_≡_}
 use mathlib.Core.Bool.{Bool, true, false, cond, not, _&&_, _||_}
-use mathlib.Core.List.{List, [], _∷_, _++_}
-use lib.IntN.{ℤ}
+use mathlib.Core.List.{[], _∷_}
 use lib.Dec.{ltb, eqb}
-use Rattle.error.specs.declared.Refusal.{Refusal}
-use Rattle.error.specs.declared.Refusal.the-variants.{Overflow}
-use Rattle.error.specs.Numbers.{ok, max32, max64, numberOf}
-use Rattle.error.specs.InOrder.{Row, inOrder}
+use Rattle.error.specs.declared.Refusal.the-variants.{Already, Overflow}
+use Rattle.error.specs.Numbers.{max32, max64}
+use Rattle.error.specs.InOrder.{NoneHolds, FirstIs}
 use Rattle.units.specs.declared.Cycles.{Cycles}
 use Rattle.usage.specs.declared.ThreadUsage.{ThreadUsage}
 use Rattle.books.specs.declared.Books.{Books}
@@ -17,21 +15,16 @@ use Rattle.books.specs.declared.Entered.{Entered}
 use Rattle.books.specs.declared.Entered.the-variants as E
 use Rattle.books.specs.declared.Operation.{Operation}
 use Rattle.books.specs.declared.Operation.the-variants as O
-use Rattle.books.specs.Stamp.{stampOf}
-use Rattle.books.specs.Entries.{stopped, runs, openCycles}
-use Rattle.books.specs.Enter.{entryTests, entryOf}
+use Rattle.books.specs.Running.{stopped, isRunning, busy, openCycles, stampOf}
+use Rattle.books.specs.Enter.{entryOf}
 
 -- whether it closes the open stretch
 unfoldable pub closes : Books → ThreadUsage → Operation → Bool
 closes b u (O.Start i) = false
 closes b u (O.Switch i) = not (stopped b)
 closes b u O.Stop = not (stopped b)
-closes b u (O.Enable i) = not (u .«track_usage») && runs b i
-closes b u (O.Disable i) = u .«track_usage» && runs b i
-
--- the cycles that it closes: between the open stretch's stamp and its own
-abbrev pub closedCycles : Books → ThreadUsage → ℕ → Operation → ℕ
-closedCycles b u now op = cond (closes b u op) (openCycles b now) 0
+closes b u (O.Enable i) = not (u .«track_usage») && isRunning b i
+closes b u (O.Disable i) = u .«track_usage» && isRunning b i
 
 -- the flag afterwards
 unfoldable pub flagAfter : Operation → Bool → Bool
@@ -65,7 +58,8 @@ runningAfter b (O.Enable i) = b .running
 runningAfter b (O.Disable i) = b .running
 
 pub record EntryIs (b : Books) (u : ThreadUsage) (now : ℕ) (op : Operation) (e : Entry) : Type 0 where
-  pub cycles : e .cycles ≡ closedCycles b u now op
+  -- the cycles between the open stretch's stamp and its own, where it closes
+  pub cycles : e .cycles ≡ cond (closes b u op) (openCycles b now) 0
   pub machine : e .books .total .0 ≡ b .total .0 + e .cycles
   pub total : e .usage .«total_cycles» .0 ≡ u .«total_cycles» .0 + cond (u .«track_usage») (e .cycles) 0
   pub flag : e .usage .«track_usage» ≡ flagAfter op (u .«track_usage»)
@@ -77,23 +71,13 @@ pub record EntryIs (b : Books) (u : ThreadUsage) (now : ℕ) (op : Operation) (e
 unfoldable pub tooMany : Books → ThreadUsage → ℕ → Bool
 tooMany b u cycles = ltb max64 (b .total .0 + cycles) || (u .«track_usage» && ltb max64 (u .«total_cycles» .0 + cycles))
 
--- a sum that would not fit, where it closes
-abbrev pub sumAbove : Books → ThreadUsage → ℕ → Operation → Bool
-sumAbove b u now op = closes b u op && tooMany b u (openCycles b now)
-
 unfoldable pub full : Books → ThreadUsage → ℕ → Operation → Bool
-full b u now op = sumAbove b u now op || (rises op (u .«track_usage») && eqb (u .«num_windows») max32)
+full b u now op = (closes b u op && tooMany b u (openCycles b now)) || (rises op (u .«track_usage») && eqb (u .«num_windows») max32)
 
--- the last test of all
-abbrev pub fullTests : Books → ThreadUsage → ℕ → Operation → List (Row Refusal)
-fullTests b u now op = (full b u now op, Overflow) ∷ []
+-- accepted, an entry does so and none of its rows holds; refused, it has the reason of the first that does
+abbrev pub EnteredIs : Books → ThreadUsage → ℕ → Operation → Entered → Type 0
+EnteredIs b u now op (E.Accepted e) = EntryIs b u now op e × NoneHolds ((busy b op, Already) ∷ (full b u now op, Overflow) ∷ [])
+EnteredIs b u now op (E.Refused why) = FirstIs ((busy b op, Already) ∷ (full b u now op, Overflow) ∷ []) why
 
-abbrev pub entryNumber : Entered → ℤ
-entryNumber (E.Accepted e) = ok
-entryNumber (E.Refused why) = numberOf why
-
--- an entry's number is that of the first row whose test holds, and 0 where none does
 abbrev pub EveryEntry : Type 0
-EveryEntry =
-    (b : Books) (u : ThreadUsage) (reading : Cycles) (op : Operation) →
-    entryNumber (entryOf b u reading op) ≡ inOrder (entryTests b op ++ fullTests b u (stampOf (reading .0)) op) numberOf ok
+EveryEntry = (b : Books) (u : ThreadUsage) (reading : Cycles) (op : Operation) → EnteredIs b u (stampOf (reading .0)) op (entryOf b u reading op)

@@ -1,5 +1,5 @@
-pub mod Stamp
 pub mod Entries
 pub mod Enter
 pub mod Says
 pub mod Laws
+pub mod Running

@@ -1,4 +1,4 @@
--- What an entry's answer says besides its values: its reason.
+-- Inside: the reason of an entry's refusal. `Readers` (crates/demands/specs/Readers.antt) says it.
 use Rattle.error.specs.declared.Refusal.{Refusal}
 use Rattle.error.specs.declared.Refusal.the-variants.{Invalid}
 use Rattle.books.specs.declared.Entered.{Entered}

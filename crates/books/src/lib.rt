@@ -2,9 +2,9 @@
 ghost use mathlib.Core.Path.{_≡_};
 ghost use mathlib.Core.Bool.{cond};
 ghost use lib.Dec.{eqb};
-ghost use Rattle.books.specs.Stamp.{stampOf};
-ghost use Rattle.books.specs.Entries.{runs, charged, closeOf, stopOf, switchOf, altered, reopenOf, alterOf, enterOf, openOf};
-ghost use Rattle.books.specs.Enter.{nothingBooked, noThread, unrecorded, past, busy, entryOf, concerned};
+ghost use Rattle.books.specs.Entries.{charged, closeOf, stopOf, switchOf, altered, reopenOf, alterOf, enterOf, openOf};
+ghost use Rattle.books.specs.Running.{isRunning, stampOf, nothingBooked, noThread, unrecorded, past, busy, concerned};
+ghost use Rattle.books.specs.Enter.{entryOf};
 ghost use Rattle.books.specs.Says.{enteredWhy};
 use error::Refusal;
 use units::Cycles;
@@ -52,7 +52,7 @@ pub fn stamp_of(reading: Cycles) -> u32
 }
 
 pub fn runs(books: Books, thread: u32) -> bool
-    ensures { λ r. ⌜ r ≡ runs books thread ⌝ }
+    ensures { λ r. ⌜ r ≡ isRunning books thread ⌝ }
 {
     (books.stamp != 0) & (books.running == thread)
 }

@@ -15,7 +15,7 @@ use Rattle.clock.specs.declared.Gaps.{Gaps}
 use Rattle.clock.specs.Timer.{setup}
 use Rattle.clock.specs.Sample.{decision, readingOf, sampleValue}
 use Rattle.clock.specs.Announce.{announcement}
-use Rattle.clock.proofs.Run.{wrapsAC, FairSample}
+use Rattle.clock.proofs.Run.{wrapsAC, FairHere}
 use Rattle.clock.proofs.Stretches.{atB, atC, Stretches, stretches}
 
 -- before, since: the real wraps up to the last C, and after it
@@ -77,7 +77,7 @@ module _ (l before since : ℕ) (t : Timer) (k : Faithful l before since t) wher
   pub announce-keeps : Faithful l before since (announcement t .timer)
   announce-keeps = record { valid = k .valid; total = omega arith; flag = k .flag; counted = omega arith }
 
-  module _ (g : Gaps) (fair : FairSample since t g) where
+  module _ (g : Gaps) (fair : FairHere since t g) where
     abbrev a : Counter
     a = t .counter
 

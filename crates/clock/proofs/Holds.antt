@@ -4,17 +4,19 @@ use mathlib.Core.Path.{_≡_}
 use mathlib.Core.List.{List}
 use mathlib.Core.Bool.{true, false}
 use Rattle.error.specs.Numbers.{max64}
-use Rattle.counter.specs.Entries.{cyclesAbove}
+use Rattle.counter.specs.Readings.{cyclesAbove}
 use Rattle.clock.specs.declared.Gaps.{Gaps}
 use Rattle.clock.specs.declared.SetUp.the-variants as U
 use Rattle.clock.specs.declared.SampleTaken.{SampleTaken}
 use Rattle.clock.specs.declared.Sampled.the-variants as S
 use Rattle.clock.specs.declared.Announcement.{Announcement}
 use Rattle.clock.specs.declared.Announced.the-variants as A
-use Rattle.clock.specs.Timer.{setUp, wellFormed, GoodSetup}
-use Rattle.clock.specs.Sample.{wholeOf, crowded, sampleOf}
-use Rattle.clock.specs.Announce.{announceOf, LargestMultiple}
-use Rattle.clock.proofs.Run.{World, Event, announce, start, step, after, Fair}
+use Rattle.clock.specs.Timer.{wellFormed, GoodSetup}
+use Rattle.clock.specs.Entries.{setUp, sampleOf}
+use Rattle.clock.specs.Sample.{cyclesOf, crowded}
+use Rattle.clock.specs.Announce.{announceOf}
+use Rattle.clock.specs.Multiple.{LargestMultiple}
+use Rattle.clock.proofs.Run.{World, Event, announce, start, step, after, FairRun}
 
 -- a reading is never above T, and short of it by whole periods
 pub record NeverAhead (period read cycles : ℕ) : Type 0 where
@@ -22,7 +24,7 @@ pub record NeverAhead (period read cycles : ℕ) : Type 0 where
   pub whole : (cycles - read) % period ≡ 0
 
 -- with no premises, after any run
-pub record Always (period tick : ℕ) (w : World) : Type 0 where
+pub record HoldsAlways (period tick : ℕ) (w : World) : Type 0 where
   -- no run from setup is taken for malformed
   pub formed : wellFormed (w .timer) ≡ true
   pub fits : w .timer .counter .cycles .0 ≤ max64
@@ -32,7 +34,7 @@ pub record Always (period tick : ℕ) (w : World) : Type 0 where
   pub sample-accepted :
       (g : Gaps) →
       crowded (w .timer) ≡ false →
-      cyclesAbove (w .timer .counter) (wholeOf g) ≡ false →
+      cyclesAbove (w .timer .counter) (cyclesOf g) ≡ false →
       (taken : SampleTaken) × (sampleOf (w .timer) g ≡ S.Accepted taken)
   pub same-tick : w .timer .clock .tick ≡ tick
   -- what is stored is what was answered
@@ -60,9 +62,9 @@ pub record True (w : World) : Type 0 where
 pub record Holds (period tick : ℕ) (es : List Event) (w : World) : Type 0 where
   -- runs start from what setup answers
   pub set-up : setUp period tick ≡ U.Accepted (start period tick .timer)
-  pub always : Always period tick w
+  pub always : HoldsAlways period tick w
   pub announcements : AnnouncedIn period tick (step announce w)
-  pub faithful : Fair es (start period tick) → True w
+  pub faithful : FairRun es (start period tick) → True w
 
 abbrev pub EveryRun : Type 0
 EveryRun = (period tick : ℕ) → GoodSetup period tick → (es : List Event) → Holds period tick es (after es (start period tick))

@@ -10,7 +10,8 @@ use Rattle.error.specs.declared.Refusal.{Refusal}
 use Rattle.error.specs.declared.Refusal.the-variants.{Invalid, Again, Overflow}
 use Rattle.error.specs.Numbers.{max32}
 use Rattle.error.proofs.Ordered.{carried}
-use Rattle.systick.specs.Leaves.{announceDecide, announceTests, announceValue}
+use Rattle.systick.specs.Leaves.{announceDecide}
+use Rattle.systick.specs.Decisions.{announceTests, announceValue}
 use Rattle.systick.specs.declared.AnnounceDecideResult.{AnnounceDecideResult}
 use Rattle.systick.specs.declared.AnnounceDecide.{AnnounceDecide}
 use Rattle.systick.specs.declared.AnnounceDecide.the-variants as D
@@ -18,9 +19,10 @@ use Rattle.systick.specs.Says.{announceDecideWhy}
 use Rattle.counter.specs.declared.Counter.{Counter}
 use Rattle.counter.specs.declared.Ran.{Ran}
 use Rattle.counter.specs.declared.Ran.the-variants as R
-use Rattle.counter.specs.Cycle.{fresh}
-use Rattle.counter.specs.Entries.{goodPeriod, inRange, cyclesAbove, startedOf}
-use Rattle.counter.specs.Valid.{minPeriod, maxPeriod, Valid}
+use Rattle.counter.specs.Cycle.{freshCounter}
+use Rattle.counter.specs.Entries.{startedOf}
+use Rattle.counter.specs.Readings.{goodPeriod, inRange, cyclesAbove}
+use Rattle.counter.specs.Valid.{Valid}
 use Rattle.counter.proofs.Outcomes.{both, period-bounds, good-of-bounds, valid-of, started-good}
 use Rattle.clock.specs.declared.Timer.{Timer}
 use Rattle.clock.specs.declared.Gaps.{Gaps}
@@ -29,8 +31,9 @@ use Rattle.clock.specs.declared.Sampled.the-variants as S
 use Rattle.clock.specs.declared.Announcement.{Announcement}
 use Rattle.clock.specs.declared.Announced.{Announced}
 use Rattle.clock.specs.declared.Announced.the-variants as A
-use Rattle.clock.specs.Timer.{setup, badSetup, setUp, GoodSetup, accountedFor, wellFormed}
-use Rattle.clock.specs.Sample.{wholeOf, crowded, sampleOf, sampleValue, Ready}
+use Rattle.clock.specs.Timer.{setup, badSetup, GoodSetup, accountedFor, wellFormed}
+use Rattle.clock.specs.Entries.{setUp, sampleOf, Ready}
+use Rattle.clock.specs.Sample.{cyclesOf, crowded, sampleValue}
 use Rattle.clock.specs.Announce.{announceOf, announcementFrom}
 
 -- a test of a sum against a limit, when one part is taken off the limit first
@@ -46,8 +49,8 @@ past a b limit h = sym (lt-leb (a + b) limit (omega arith))
 
 -- what the test of a setup makes sure of
 pub record SetupFacts (period tick : ℕ) : Type 0 where
-  pub least : minPeriod ≤ period
-  pub most : period ≤ maxPeriod
+  pub least : 2 ≤ period
+  pub most : period ≤ 16777215
   pub ticks : 1 ≤ tick
 
 module _ (period tick : ℕ) where
@@ -99,15 +102,15 @@ module _ (t : Timer) (g : Gaps) where
   unfolding sampleOf
   announce-first e h = simp (e, h)
 
-  pub cycles-above : wellFormed t ≡ true → crowded t ≡ false → cyclesAbove (t .counter) (wholeOf g) ≡ true → sampleOf t g ≡ S.Refused Overflow
+  pub cycles-above : wellFormed t ≡ true → crowded t ≡ false → cyclesAbove (t .counter) (cyclesOf g) ≡ true → sampleOf t g ≡ S.Refused Overflow
   unfolding sampleOf
   cycles-above e a h = simp (e, a, h)
 
-  pub sampled : wellFormed t ≡ true → crowded t ≡ false → cyclesAbove (t .counter) (wholeOf g) ≡ false → sampleOf t g ≡ S.Accepted (sampleValue t g)
+  pub sampled : wellFormed t ≡ true → crowded t ≡ false → cyclesAbove (t .counter) (cyclesOf g) ≡ false → sampleOf t g ≡ S.Accepted (sampleValue t g)
   unfolding sampleOf
   sampled e a b = simp (e, a, b)
 
-  pub ready : wellFormed t ≡ true → crowded t ≡ false → cyclesAbove (t .counter) (wholeOf g) ≡ false → Ready t g
+  pub ready : wellFormed t ≡ true → crowded t ≡ false → cyclesAbove (t .counter) (cyclesOf g) ≡ false → Ready t g
   ready e a b = record { valid = formed-valid t e; behind = formed-behind t e; room = a; fits = b }
 
 -- what the leaf decides, and what an announcement makes of it
@@ -132,10 +135,10 @@ module _ (t : Timer) where
 
 -- a setup that is not bad, from what the counter answered
 module _ (period tick : ℕ) (good : GoodSetup period tick) {answer : Ran} (p : answer ≡ startedOf period) where
-  started : answer ≡ R.Accepted (fresh period)
+  started : answer ≡ R.Accepted (freshCounter period)
   started = let facts = setup-facts period tick good in p ∙ started-good period (good-of-bounds period (facts .least) (facts .most))
 
-  pub start-given : {counter : Counter} → answer ≡ R.Accepted counter → counter ≡ fresh period
+  pub start-given : {counter : Counter} → answer ≡ R.Accepted counter → counter ≡ freshCounter period
   start-given q = cc (started)
 
   pub never-refused : {why : Refusal} → answer ≡ R.Refused why → ⊥

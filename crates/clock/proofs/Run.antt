@@ -16,7 +16,7 @@ use Rattle.clock.specs.declared.Sampled.the-variants as S
 use Rattle.clock.specs.declared.Announced.{Announced}
 use Rattle.clock.specs.declared.Announced.the-variants as A
 use Rattle.clock.specs.Timer.{setup}
-use Rattle.clock.specs.Sample.{sampleOf}
+use Rattle.clock.specs.Entries.{sampleOf}
 use Rattle.clock.specs.Announce.{announceOf}
 use Rattle.clock.proofs.Stretches.{atB, atC}
 
@@ -82,24 +82,15 @@ unfoldable pub after : List Event → World → World
 after [] w = w
 after (e ∷ es) w = after es (step e w)
 
--- Demand 3's premises on a sample: it takes less than a period; at most one wrap since the last C; where there was one, none from C to D.
-abbrev pub Quick : Timer → Gaps → Type 0
-Quick t g = g .p + g .q < t .counter .period
-
-abbrev pub OneWrap : ℕ → Timer → Gaps → Type 0
-OneWrap since t g = since + wrapsAC (t .counter) g ≤ 1
-
-abbrev pub NoneToD : ℕ → Timer → Gaps → Type 0
-NoneToD since t g = 1 ≤ since + wrapsAC (t .counter) g → wraps (g .r) (atC (t .counter) g) ≡ 0
-
-pub record FairSample (since : ℕ) (t : Timer) (g : Gaps) : Type 0 where
-  pub quick : Quick t g
-  pub one-wrap : OneWrap since t g
-  pub none-to-D : NoneToD since t g
+-- Demand 3's premises on a sample of this state: it takes less than a period; at most one wrap since the last C; where there was one, none from C to D.
+pub record FairHere (since : ℕ) (t : Timer) (g : Gaps) : Type 0 where
+  pub quick : g .p + g .q < t .counter .period
+  pub one-wrap : since + wrapsAC (t .counter) g ≤ 1
+  pub none-to-D : 1 ≤ since + wrapsAC (t .counter) g → wraps (g .r) (atC (t .counter) g) ≡ 0
 
 -- an event is fair unless it is a sample that breaks a premise; a refused sample touches nothing, so nothing is asked of it
 abbrev pub FairIf : World → Gaps → Sampled → Type 0
-FairIf w g (S.Accepted taken) = FairSample (w .since) (w .timer) g
+FairIf w g (S.Accepted taken) = FairHere (w .since) (w .timer) g
 FairIf w g (S.Refused why) = Unit {0}
 
 abbrev pub FairEvent : Event → World → Type 0
@@ -107,6 +98,6 @@ FairEvent (run n) w = Unit {0}
 FairEvent (sample g) w = FairIf w g (sampleOf (w .timer) g)
 FairEvent announce w = Unit {0}
 
-abbrev pub Fair : List Event → World → Type 0
-Fair [] w = Unit {0}
-Fair (e ∷ es) w = FairEvent e w × Fair es (step e w)
+abbrev pub FairRun : List Event → World → Type 0
+FairRun [] w = Unit {0}
+FairRun (e ∷ es) w = FairEvent e w × FairRun es (step e w)

@@ -7,7 +7,7 @@ use mathlib.Core.List.{List, [], _∷_}
 use Rattle.counter.specs.declared.Ran.{Ran}
 use Rattle.clock.specs.declared.Sampled.{Sampled}
 use Rattle.clock.specs.declared.Announced as declared
-use Rattle.clock.proofs.Run.{World, Event, run, sample, announce, start, step, after, afterRun, afterSample, afterAnnounce, Fair, FairEvent, FairIf}
+use Rattle.clock.proofs.Run.{World, Event, run, sample, announce, start, step, after, afterRun, afterSample, afterAnnounce, FairRun, FairEvent, FairIf}
 use Rattle.clock.specs.Timer.{GoodSetup}
 use Rattle.clock.proofs.Holds.{NeverAhead, AnnouncedIn, EveryRun}
 use Rattle.clock.proofs.Outcomes.{SetupFacts, setup-facts, set-up, sampled}
@@ -64,7 +64,7 @@ fair-step l announce w k fair =
     (λ why. k)
     (λ let-through. (faithful.announce-keeps l (w .before) (w .since) (w .timer) (k .0), k .1))
 
-fair-keeps : (l : ℕ) (es : List Event) (w : World) → FaithfulWorld l w → Fair es w → FaithfulWorld l (after es w)
+fair-keeps : (l : ℕ) (es : List Event) (w : World) → FaithfulWorld l w → FairRun es w → FaithfulWorld l (after es w)
 unfolding after
 fair-keeps l [] w k fair = k
 fair-keeps l (e ∷ es) w k fair = fair-keeps l es (step e w) (fair-step l e w k (fair .0)) (fair .1)
@@ -85,7 +85,7 @@ module _ (period tick : ℕ) (good : GoodSetup period tick) (es : List Event) wh
       keeps period tick es (start period tick)
       (record { accounts = accounts.at-setup period tick (facts .least) (facts .most) (facts .ticks); same-tick = refl; last = refl; told = sym (zero-mul tick); never-ahead = record { below = omega arith; whole = zero-mod period } })
 
-  told : Fair es (start period tick) → FaithfulWorld period (after es (start period tick))
+  told : FairRun es (start period tick) → FaithfulWorld period (after es (start period tick))
   unfolding FaithfulWorld
   told fair = fair-keeps period es (start period tick) (faithful.at-setup period tick (facts .least) (facts .most), refl) fair
 

@@ -18,14 +18,16 @@ use Rattle.counter.specs.declared.SampleReadings.{SampleReadings}
 use Rattle.counter.specs.declared.SampleRead.{SampleRead}
 use Rattle.counter.specs.declared.SampleRead.the-variants as R
 use Rattle.counter.specs.Cycle.{cleared}
-use Rattle.counter.specs.Entries.{readingsFrom, readingsOf}
+use Rattle.counter.specs.Entries.{readingsOf}
+use Rattle.counter.specs.Readings.{readingsFrom}
 use Rattle.counter.specs.Valid.{Valid}
 use Rattle.counter.proofs.Outcomes.{read-on, in-range-of}
 use Rattle.clock.specs.declared.Timer.{Timer}
 use Rattle.clock.specs.declared.Gaps.{Gaps}
 use Rattle.clock.specs.declared.SampleTaken.{SampleTaken}
 use Rattle.clock.specs.Timer.{accountedFor}
-use Rattle.clock.specs.Sample.{wholeOf, decision, readingOf, takenFrom, sampleValue, Ready}
+use Rattle.clock.specs.Sample.{cyclesOf, decision, readingOf, takenFrom, sampleValue}
+use Rattle.clock.specs.Entries.{Ready}
 use Rattle.clock.proofs.Stretches.{atB, atC, Stretches, stretches}
 use Rattle.clock.proofs.Owed.{Owes, short}
 
@@ -81,7 +83,7 @@ module _ (t : Timer) (g : Gaps) (ready : Ready t g) where
       let o = owes t (ready .valid) (ready .behind) _ refl in
       let below = short (a .period) (o .0) (o .1) t g (o .2) _ refl in
       let s = parts in
-      let fits : a .cycles .0 + wholeOf g ≤ max64 = ltb-false _ _ (ready .fits) in
+      let fits : a .cycles .0 + cyclesOf g ≤ max64 = ltb-false _ _ (ready .fits) in
       omega arith
 
   -- what the code's steps come to, one after the other, and that none of them is refused

@@ -10,7 +10,8 @@ use Rattle.counter.specs.declared.Counter.{Counter}
 use Rattle.counter.specs.declared.Ran.{Ran}
 use Rattle.counter.specs.declared.Ran.the-variants as R
 use Rattle.counter.specs.Cycle.{runN}
-use Rattle.counter.specs.Entries.{inRange, ranOf, runTests}
+use Rattle.counter.specs.Entries.{ranOf, runTests}
+use Rattle.counter.specs.Readings.{inRange}
 use Rattle.clock.specs.declared.Timer.{Timer}
 use Rattle.clock.specs.declared.Gaps.{Gaps}
 use Rattle.clock.specs.declared.Sampled.{Sampled}
@@ -18,7 +19,8 @@ use Rattle.clock.specs.declared.Sampled.the-variants as S
 use Rattle.clock.specs.declared.Announced.{Announced}
 use Rattle.clock.specs.declared.Announced.the-variants as A
 use Rattle.clock.specs.Timer.{wellFormed}
-use Rattle.clock.specs.Sample.{wholeOf, sampleOf, sampleTests, sampleValue}
+use Rattle.clock.specs.Sample.{cyclesOf, sampleValue}
+use Rattle.clock.specs.Entries.{sampleOf, sampleTests}
 use Rattle.clock.specs.Announce.{announceOf, announcement, announcementTests}
 
 pub ran-by : (c : Counter) (n : ℕ) (P : Ran → Type 0) → ((why : Refusal) → P (R.Refused why)) → (inRange c ≡ true → c .cycles .0 + n ≤ max64 → P (R.Accepted (runN n c))) → P (ranOf c n)
@@ -31,7 +33,7 @@ ran-by c n P refused f =
 pub record SampleLet (t : Timer) (g : Gaps) : Type 0 where
   pub formed : wellFormed t ≡ true
   pub room : t .clock .overflow + 2 * t .counter .period - 1 ≤ max32
-  pub fits : t .counter .cycles .0 + wholeOf g ≤ max64
+  pub fits : t .counter .cycles .0 + cyclesOf g ≤ max64
 
 pub sampled-by : (t : Timer) (g : Gaps) (P : Sampled → Type 0) → ((why : Refusal) → P (S.Refused why)) → (SampleLet t g → P (S.Accepted (sampleValue t g))) → P (sampleOf t g)
 unfolding sampleOf

@@ -1,34 +1,22 @@
--- A sample: reads v (A), runs p, reads and clears the flag (B), runs q, reads v (C), decides, runs r; on a wrap clears again (D).
-use Prim.Native.Nat.{ℕ, _+_, _-_, _*_, _≤_}
-use mathlib.Core.Path.{_≡_}
-use mathlib.Core.Bool.{Bool, false, cond, not}
-use mathlib.Core.List.{List, [], _∷_}
+-- Believed: a sample. It reads v (A), runs p, reads and clears the flag (B), runs q, reads v (C), decides, runs r; on a wrap it clears again (D).
+use Prim.Native.Nat.{ℕ, _+_, _-_, _*_}
+use mathlib.Core.Bool.{Bool, cond}
 use lib.Dec.{ltb}
-use Rattle.error.specs.declared.Refusal.{Refusal}
-use Rattle.error.specs.declared.Refusal.the-variants.{Invalid, Again, Overflow}
 use Rattle.error.specs.Numbers.{max32}
-use Rattle.error.specs.InOrder.{Row, inOrder}
-use Rattle.systick.specs.Leaves.{elapsedValue}
 use Rattle.systick.specs.declared.ElapsedDecideResult.{ElapsedDecideResult}
+use Rattle.systick.specs.Decisions.{elapsedValue}
 use Rattle.counter.specs.declared.Counter.{Counter}
 use Rattle.counter.specs.declared.SampleReadings.{SampleReadings}
 use Rattle.counter.specs.Cycle.{cleared}
-use Rattle.counter.specs.Entries.{cyclesAbove, readingsFrom, sampleCycles}
-use Rattle.counter.specs.Valid.{Valid}
+use Rattle.counter.specs.Readings.{readingsFrom}
 use Rattle.clock.specs.declared.Clock.{Clock}
 use Rattle.clock.specs.declared.Timer.{Timer}
 use Rattle.clock.specs.declared.Gaps.{Gaps}
 use Rattle.clock.specs.declared.SampleTaken.{SampleTaken}
-use Rattle.clock.specs.declared.Sampled.{Sampled}
-use Rattle.clock.specs.declared.Sampled.the-variants as S
-use Rattle.clock.specs.Timer.{accountedFor, wellFormed}
 
-abbrev pub gaps : ℕ → ℕ → ℕ → Gaps
-gaps p q r = record { p = p; q = q; r = r }
-
--- all the cycles of a sample
-abbrev pub wholeOf : Gaps → ℕ
-wholeOf g = sampleCycles (g .p) (g .q) (g .r)
+-- all the cycles of a sample, r too where no D follows
+abbrev pub cyclesOf : Gaps → ℕ
+cyclesOf g = g .p + g .q + g .r
 
 -- the flag at B, v at C, and the counter r cycles after it
 abbrev pub readings : Timer → Gaps → SampleReadings
@@ -64,17 +52,3 @@ sampleValue t g = takenFrom (t .clock) (decision t g) (readingOf t g) (counterAf
 -- overflow + 2L - 1 above 2^32 - 1
 abbrev pub crowded : Timer → Bool
 crowded t = ltb max32 (t .clock .overflow + 2 * t .counter .period - 1)
-
--- In order, before any touch: a malformed state, -22; no room in the overflow, -11; T past 2^64 - 1, -139.
-abbrev pub sampleTests : Timer → Gaps → List (Row Refusal)
-sampleTests t g = (not (wellFormed t), Invalid) ∷ (crowded t, Again) ∷ (cyclesAbove (t .counter) (wholeOf g), Overflow) ∷ []
-
-unfoldable pub sampleOf : Timer → Gaps → Sampled
-sampleOf t g = inOrder (sampleTests t g) S.Refused (S.Accepted (sampleValue t g))
-
--- what the tests make sure of, for the private worker behind them
-pub record Ready (t : Timer) (g : Gaps) : Type 0 where
-  pub valid : Valid (t .counter .period) (t .counter)
-  pub behind : accountedFor t ≤ t .counter .cycles .0
-  pub room : crowded t ≡ false
-  pub fits : cyclesAbove (t .counter) (wholeOf g) ≡ false

@@ -4,8 +4,9 @@ ghost use mathlib.Core.Bool.{cond};
 ghost use Prim.Native.Nat.{_+_, _≤_};
 ghost use lib.Dec.{leb};
 ghost use Rattle.counter.specs.Cycle.{cleared};
-ghost use Rattle.clock.specs.Timer.{badSetup, setUp, accountedFor, wellFormed};
-ghost use Rattle.clock.specs.Sample.{wholeOf, crowded, sampleOf, sampleValue, takenFrom, Ready};
+ghost use Rattle.clock.specs.Timer.{badSetup, accountedFor, wellFormed};
+ghost use Rattle.clock.specs.Entries.{setUp, sampleOf, Ready};
+ghost use Rattle.clock.specs.Sample.{cyclesOf, crowded, sampleValue, takenFrom};
 ghost use Rattle.clock.specs.Announce.{announceOf, announcementFrom};
 ghost use Rattle.clock.specs.Says.{setUpSays, setUpWhy, sampledSays, sampledWhy, announcedSays, announcedWhy};
 use counter::Counter;
@@ -47,7 +48,7 @@ pub struct Gaps {
 impl Gaps {
     // All its cycles as one number.
     pub fn whole(self) -> u64
-        ensures { λ r. ⌜ r ≡ wholeOf self ⌝ }
+        ensures { λ r. ⌜ r ≡ cyclesOf self ⌝ }
     {
         counter::sample_cycles(self.p, self.q, self.r)
     }

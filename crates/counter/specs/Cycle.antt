@@ -1,12 +1,12 @@
--- 01's counter, one cycle at a time.
+-- Believed: 01's counter, one cycle at a time.
 use Prim.Native.Nat.{ℕ, zero, suc, _+_, _-_}
 use mathlib.Core.Bool.{false, cond, _||_}
 use lib.Dec.{eqb}
 use Rattle.counter.specs.declared.Counter.{Counter}
 
 -- Setup gives v = L, flag clear, T = 0.
-abbrev pub fresh : ℕ → Counter
-fresh period = record { period = period; value = period; flag = false; cycles = record { 0 = 0 } }
+abbrev pub freshCounter : ℕ → Counter
+freshCounter period = record { period = period; value = period; flag = false; cycles = record { 0 = 0 } }
 
 -- One cycle: v = 1 becomes L and sets the flag; otherwise v falls by one. T counts cycles run.
 unfoldable pub cycle : Counter → Counter

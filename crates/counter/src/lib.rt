@@ -3,7 +3,8 @@ ghost use mathlib.Core.Path.{_≡_};
 ghost use Prim.Native.Nat.{_+_, _≤_};
 ghost use Rattle.error.specs.Numbers.{max64};
 ghost use Rattle.counter.specs.Cycle.{runN, cleared};
-ghost use Rattle.counter.specs.Entries.{goodPeriod, inRange, cyclesAbove, startedOf, ranOf, sampleCycles, readingsOf, valueOf};
+ghost use Rattle.counter.specs.Entries.{startedOf, ranOf, readingsOf, valueOf};
+ghost use Rattle.counter.specs.Readings.{goodPeriod, inRange, cyclesAbove};
 ghost use Rattle.counter.specs.Says.{ranSays, ranWhy, sampleReadWhy, valueSays};
 ghost use Rattle.counter.specs.Valid.{Valid};
 use error::Refusal;
@@ -163,7 +164,7 @@ pub enum SampleRead {
 
 // All the cycles of a sample as one number: three of 32 bits can't pass 64.
 pub fn sample_cycles(p: u32, q: u32, r: u32) -> u64
-    ensures { λ sum. ⌜ sum ≡ sampleCycles p q r ⌝ }
+    ensures { λ sum. ⌜ sum ≡ p + q + r ⌝ }
 {
     p as u64 + q as u64 + r as u64
 }

@@ -14,15 +14,15 @@ use Rattle.error.specs.Numbers.{max32, max64}
 use Rattle.clock.specs.declared.Gaps.{Gaps}
 use Rattle.clock.specs.declared.Timer.{Timer}
 use Rattle.clock.specs.Timer.{GoodSetup}
-use Rattle.clock.specs.Sample.{wholeOf}
+use Rattle.clock.specs.Sample.{cyclesOf}
 use Rattle.clock.proofs.Run as clock
 use Rattle.clock.proofs.Runs as clock-runs
 use Rattle.books.specs.declared.Operation.{Operation}
 use Rattle.books.specs.declared.Operation.the-variants as O
-use Rattle.books.specs.Enter.{concerned}
+use Rattle.books.specs.Running.{concerned}
 use Rattle.books.specs.Laws.{rises, full}
 use Rattle.ledger.specs.declared.Ledger.{Ledger}
-use Rattle.ledger.specs.Operate.{recordOf, usageOf}
+use Rattle.ledger.specs.Records.{threadRecord, concernedRecord}
 use Rattle.ledger.proofs.Run as ledger
 use Rattle.ledger.proofs.Agreeing as ledger-runs
 use Rattle.ledger.proofs.Fitting.{sums-fit}
@@ -36,21 +36,23 @@ use Rattle.table.specs.declared.Outcome.the-variants as Told
 use Rattle.table.specs.declared.tasks.Task.the-variants as T
 use Rattle.table.specs.declared.tasks.Then.the-variants as W
 use Rattle.table.specs.Task.{taskOf, askedBy}
-use Rattle.table.specs.Table.{malformed, refusalOf}
+use Rattle.table.specs.Table.{malformed, columns}
 use Rattle.table.specs.Says.{outcomeSays}
 use Rattle.machine.specs.Step.{coreOf, fullRow, announceRows, lastRows, recordRows, rowsOf, stepOf}
 use Rattle.machine.proofs.Passed as passed
 use Rattle.machine.proofs.Stepping as stepping
 use Rattle.machine.proofs.Stepping.{every-refusal}
-use Rattle.demands.specs.Trace.{doesOf, Watched, timeC, Fair, FairSample, watchAll, setUp}
-use Rattle.demands.specs.Demand1.{RowNumbers, FromSetup, NoSumRefused, Demand1}
+use Rattle.machine.proofs.Whole.{stays-whole}
+use Rattle.demands.specs.Trace.{doesOf, Watched, timeC, Fair, FairSample, watchAll, atSetup}
+use Rattle.demands.specs.Demand1.{FromSetup, NoSumRefused, Demand1}
+use Rattle.demands.specs.RowNumbers.{RowNumbers}
 use Rattle.demands.proofs.Counting.{cycles-are}
 use Rattle.demands.proofs.Moving.{later}
 use Rattle.demands.proofs.Watching.{Same, announces, table-size, all-same, begin-same}
 use Rattle.demands.proofs.Following.{True, reads-true, all-true, begin-true}
 
 row-numbers : RowNumbers
-unfolding outcomeSays refusalOf
+unfolding outcomeSays columns
 row-numbers = record {
   malformed-state = record { number-is = refl; zeros = refl };
   bad-record = record { number-is = refl; zeros = refl };
@@ -108,14 +110,14 @@ module _ {slots period tick : ℕ} (some : 0 < slots) (good : GoodSetup period t
   l = w .machine .ledger
 
   -- where an operation's last row holds, a count of windows is full
-  window-full : (g : Gaps) (op : Operation) → FairSample period (w .ran) (w .atC) g → stepping.taskStep m (T.Sample g (W.Operate op)) .outcome ≡ Told.Refused Why.WontFit → rises op (usageOf l op .«track_usage») && eqb (usageOf l op .«num_windows») max32 ≡ true
+  window-full : (g : Gaps) (op : Operation) → FairSample period (w .ran) (w .atC) g → stepping.taskStep m (T.Sample g (W.Operate op)) .outcome ≡ Told.Refused Why.WontFit → rises op (concernedRecord l op .«track_usage») && eqb (concernedRecord l op .«num_windows») max32 ≡ true
   unfolding full lastRows askedBy
   window-full g op fair e =
       let same = held .same in
       let p = stepping.touches-sum m (T.Sample g (W.Operate op)) e in
       let reading = reads-true some good w held g fair (stepping.sample-accepted m g (W.Operate op) (p .0)) in
       let cycles : m .timer .counter .cycles .0 ≡ w .ran = ap (λ (t : Timer). t .counter .cycles .0) (same .timer) ∙ cycles-are period (w .ran) (w .atC) (clock.after (same .events) (clock.start period tick)) (same .tracks) in
-      let below = ltb-false max64 (m .timer .counter .cycles .0 + wholeOf g) (p .0 .passed .fits) in
+      let below = ltb-false max64 (m .timer .counter .cycles .0 + cyclesOf g) (p .0 .passed .fits) in
       let fit = rw (sym (same .entered)) at (sums-fit slots some (same .entries) (timeC (w .ran) g) (later 0 (same .entries) (w .ran) (timeC (w .ran) g) (held .timely) (omega arith)) (omega arith) op) in
       second-of _ _ fit (rw reading at (holds (p .1)))
     where
@@ -124,7 +126,7 @@ module _ {slots period tick : ℕ} (some : 0 < slots) (good : GoodSetup period t
       holds (inr rest) = absurd (rest .1)
 
   -- what is no operation has no such row, and of the operations only enable a window
-  no-sum : (r : Record) → Fair period (w .ran) (w .atC) (doesOf r 0) → stepping.taskStep m (taskOf r) .outcome ≡ Told.Refused Why.WontFit → FirstIs (lastRows m (taskOf r)) Why.WontFit → (i : ℕ) × (g : Gaps) × (r ≡ K.Enable i g) × (recordOf l i .«num_windows» ≡ max32)
+  no-sum : (r : Record) → Fair period (w .ran) (w .atC) (doesOf r 0) → stepping.taskStep m (taskOf r) .outcome ≡ Told.Refused Why.WontFit → FirstIs (lastRows m (taskOf r)) Why.WontFit → (i : ℕ) × (g : Gaps) × (r ≡ K.Enable i g) × (threadRecord l i .«num_windows» ≡ max32)
   unfolding rises concerned taskOf lastRows
   no-sum (K.Run p) fair e first = absurd first
   no-sum (K.Sample g) fair e first = absurd first
@@ -132,7 +134,7 @@ module _ {slots period tick : ℕ} (some : 0 < slots) (good : GoodSetup period t
   no-sum (K.Start i g) fair e first = clash (let q = window-full g (O.Start i) fair e in cc)
   no-sum (K.Switch i g) fair e first = clash (let q = window-full g (O.Switch i) fair e in cc)
   no-sum (K.Stop g) fair e first = clash (let q = window-full g O.Stop fair e in cc)
-  no-sum (K.Enable i g) fair e first = (i, g, refl, eqb-true _ _ (second-holds (not (recordOf l i .«track_usage»)) _ (window-full g (O.Enable i) fair e)))
+  no-sum (K.Enable i g) fair e first = (i, g, refl, eqb-true _ _ (second-holds (not (threadRecord l i .«track_usage»)) _ (window-full g (O.Enable i) fair e)))
   no-sum (K.Disable i g) fair e first = clash (let q = window-full g (O.Disable i) fair e in cc)
   no-sum (K.Report i) fair e first = absurd first
   no-sum (K.Setup s) fair e first = absurd first
@@ -148,9 +150,10 @@ demand1 = record {
   exactly = λ m d. every-refusal m d .0;
   kept = λ m d. every-refusal m d .1;
   numbers = row-numbers;
+  stays-whole = stays-whole;
   from-setup = λ slots period tick some good ds.
-      let w = watchAll stepOf ds (setUp stepOf slots period tick) in (
-        from-setup some good w (all-same some good ds (setUp stepOf slots period tick) (begin-same slots period tick good)),
-        λ fair. no-sum-refused some good w (all-true some good ds (setUp stepOf slots period tick) fair (begin-true slots period tick good)),
+      let w = watchAll stepOf ds (atSetup stepOf slots period tick) in (
+        from-setup some good w (all-same some good ds (atSetup stepOf slots period tick) (begin-same slots period tick good)),
+        λ fair. no-sum-refused some good w (all-true some good ds (atSetup stepOf slots period tick) fair (begin-true slots period tick good)),
       );
 }

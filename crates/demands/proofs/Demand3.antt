@@ -22,7 +22,7 @@ use Rattle.table.specs.Task.{taskOf}
 use Rattle.machine.proofs.Accepting.{announcement-is}
 use Rattle.machine.proofs.Stepping as stepping
 use Rattle.machine.proofs.Stepping.{every-answer}
-use Rattle.demands.specs.Trace.{Watched, timeC, FairSample, watchAll, setUp}
+use Rattle.demands.specs.Trace.{Watched, timeC, FairSample, watchAll, atSetup}
 use Rattle.demands.specs.Demand3.{Announces, Always, Fairly, Demand3}
 use Rattle.demands.proofs.Counting.{cycles-are}
 use Rattle.demands.proofs.Watching.{Same, announces, same-tick, all-same, begin-same}
@@ -89,5 +89,5 @@ module _ {slots period tick : ℕ} (some : 0 < slots) (good : GoodSetup period t
 pub demand3 : Demand3 stepOf
 demand3 slots period tick some good ds =
     let begun = begin-true slots period tick good in
-    let w = watchAll stepOf ds (setUp stepOf slots period tick) in
-    (always some good w (all-same some good ds (setUp stepOf slots period tick) (begin-same slots period tick good)), λ fair. fairly some good w (all-true some good ds (setUp stepOf slots period tick) fair begun))
+    let w = watchAll stepOf ds (atSetup stepOf slots period tick) in
+    (always some good w (all-same some good ds (atSetup stepOf slots period tick) (begin-same slots period tick good)), λ fair. fairly some good w (all-true some good ds (atSetup stepOf slots period tick) fair begun))

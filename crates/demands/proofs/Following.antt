@@ -11,7 +11,8 @@ use Rattle.clock.specs.declared.Timer.{Timer}
 use Rattle.clock.specs.declared.Sampled.the-variants as S
 use Rattle.clock.specs.declared.Announcement.{Announcement}
 use Rattle.clock.specs.declared.Announced.the-variants as N
-use Rattle.clock.specs.Sample.{wholeOf, sampleValue, sampleOf}
+use Rattle.clock.specs.Sample.{cyclesOf, sampleValue}
+use Rattle.clock.specs.Entries.{sampleOf}
 use Rattle.clock.specs.Announce.{announceOf}
 use Rattle.clock.specs.Timer.{GoodSetup}
 use Rattle.clock.proofs.Run as clock
@@ -20,10 +21,11 @@ use Rattle.books.specs.declared.Operation.{Operation}
 use Rattle.ledger.specs.declared.Answer.the-variants as A
 use Rattle.ledger.specs.Operate.{operateOf}
 use Rattle.ledger.proofs.Holds.{Timely}
-use Rattle.ledger.specs.Threads.{operated, answeredAfter}
+use Rattle.ledger.specs.Threads.{operated}
 use Rattle.ledger.proofs.Run as ledger
 use Rattle.trace.specs.declared.Decoded.{Decoded}
 use Rattle.trace.specs.declared.Decoded.the-variants as D
+use Rattle.table.specs.Table.{columns}
 use Rattle.machine.specs.declared.Machine.{Machine}
 use Rattle.table.specs.declared.Values.{Values}
 use Rattle.table.specs.declared.Reason.the-variants as Why
@@ -32,11 +34,11 @@ use Rattle.table.specs.declared.tasks.Task.{Task}
 use Rattle.table.specs.declared.tasks.Task.the-variants as T
 use Rattle.table.specs.declared.tasks.Then.the-variants as W
 use Rattle.table.specs.Task.{taskOf}
-use Rattle.machine.specs.Step.{afterTouch, coreOf, stepOf}
+use Rattle.machine.specs.Step.{coreOf, stepOf}
 use Rattle.machine.proofs.Accepting.{Samples}
 use Rattle.machine.proofs.Stepping as stepping
 use Rattle.machine.proofs.Stepping.{taskStep, Touches}
-use Rattle.demands.specs.Trace.{Does, nothing, samples, operates, happened, Watched, timeC, seen, Fair, FairSample, watch, watchAll, setUp, FairTrace}
+use Rattle.demands.specs.Trace.{Does, nothing, samples, operates, happened, Watched, timeC, seen, Fair, FairSample, watch, watchAll, atSetup, FairTrace}
 use Rattle.demands.proofs.Counting.{time-is, fair-sample}
 use Rattle.demands.proofs.Moving.{taskDoes, happenedBy, happened-is, Ending, taken, summed, left, timeOf, on-and-on, fair-on, entries-on, later, one-later, ending, entryAt, idle, operation, moved, answeredOf, toldOf, announced-after, told-accepted, told-refused, adds, sum-adds, sum-announces, refused-left}
 use Rattle.demands.proofs.Watching.{Same, announces, has-slots, at, touched-same, left-same, afterTask, watched-task, begin-same}
@@ -44,7 +46,7 @@ use Rattle.demands.proofs.Watching.{Same, announces, has-slots, at, tou
 -- in a fair run, besides: our onlooker of the threads has just what the machine's entries tell
 pub record True (slots period tick : ℕ) (w : Watched) : Type 0 where
   pub same : Same slots period tick w
-  pub fair : clock.Fair (same .events) (clock.start period tick)
+  pub fair : clock.FairRun (same .events) (clock.start period tick)
   pub threads : w .threads ≡ ledger.after (same .entries) (ledger.begin slots) .threads
   pub printed : w .since ≡ ledger.after (same .entries) (ledger.begin slots) .answered
   pub timely : Timely 0 (same .entries) (w .ran)
@@ -54,7 +56,7 @@ module _ (lw : ledger.World) (m : Machine) (together : lw .ledger ≡ m .ledger)
   abbrev entry : ledger.Event
   entry = record { operation = op; time = reading .0 }
 
-  accepted-entry : (x : ℕ) → operateOf (m .ledger) reading op .answer ≡ A.Accepted x → (ledger.step entry lw .threads ≡ operated (lw .threads) op (reading .0)) × (ledger.step entry lw .answered ≡ answeredAfter (lw .threads) op (lw .answered) x)
+  accepted-entry : (x : ℕ) → operateOf (m .ledger) reading op .answer ≡ A.Accepted x → (ledger.step entry lw .threads ≡ operated (lw .threads) op (reading .0)) × (ledger.step entry lw .answered ≡ ledger.answeredAfter (lw .threads) op (lw .answered) x)
   unfolding ledger.step
   accepted-entry x e = rw (together, e) (refl, refl)
 
@@ -74,15 +76,15 @@ module _ (w : Watched) (x : clock.World) (together : w .machine .timer ≡ x .ti
     none-more : (es : List ledger.Event) (to : ℕ) → Timely 0 es to → Timely 0 (es ++ []) to
     none-more es to timely = subst (λ (l : List ledger.Event). Timely 0 l to) (sym (append-nil es)) timely
 
-    one-more : (g : Gaps) (op : Operation) → Touches m (T.Sample g (W.Operate op)) → FairSample period (w .ran) (w .atC) g → (es : List ledger.Event) → Timely 0 es (w .ran) → Timely 0 (es ++ entryAt m g op ∷ []) (w .ran + wholeOf g)
+    one-more : (g : Gaps) (op : Operation) → Touches m (T.Sample g (W.Operate op)) → FairSample period (w .ran) (w .atC) g → (es : List ledger.Event) → Timely 0 es (w .ran) → Timely 0 (es ++ entryAt m g op ∷ []) (w .ran + cyclesOf g)
     one-more g op t fair es timely =
         let is = reads g fair (stepping.sample-accepted m g (W.Operate op) t) in
-        one-later 0 es (entryAt m g op) (w .ran + wholeOf g) (later 0 es (w .ran) (sampleValue (m .timer) g .reading .0) timely (omega arith)) (omega arith)
+        one-later 0 es (entryAt m g op) (w .ran + cyclesOf g) (later 0 es (w .ran) (sampleValue (m .timer) g .reading .0) timely (omega arith)) (omega arith)
 
     on-time : (task : Task) (t : Touches m task) (n : ℕ) → Fair period (w .ran) (w .atC) (taskDoes task n) → (es : List ledger.Event) → Timely 0 es (w .ran) → Timely 0 (es ++ entriesBy task t) (seen (taskDoes task n) (taskStep m task .machine) w .ran)
     unfolding seen moved entriesBy idle operation
     on-time (T.Run p) t n fair es timely = none-more es _ (later 0 es (w .ran) (w .ran + p) timely (omega arith))
-    on-time (T.Sample g W.Tell) t n fair es timely = none-more es _ (later 0 es (w .ran) (w .ran + wholeOf g) timely (omega arith))
+    on-time (T.Sample g W.Tell) t n fair es timely = none-more es _ (later 0 es (w .ran) (w .ran + cyclesOf g) timely (omega arith))
     on-time (T.Sample g (W.Operate op)) t n fair es timely = one-more g op t fair es timely
     on-time T.Announce t n fair es timely = none-more es (w .ran) timely
     on-time (T.Report i) t n fair es timely = none-more es (w .ran) timely
@@ -126,7 +128,7 @@ module _ {slots period tick : ℕ} (some : 0 < slots) (good : GoodSetup period t
     abbrev x : clock.World
     x = clock.after (held .same .events) (clock.start period tick)
 
-    fair-event : (g : Gaps) → FairSample period (w .ran) (w .atC) g → Samples (coreOf (w .machine)) g → clock.Fair (clock.sample g ∷ []) x
+    fair-event : (g : Gaps) → FairSample period (w .ran) (w .atC) g → Samples (coreOf (w .machine)) g → clock.FairRun (clock.sample g ∷ []) x
     fair-event g fair accepted =
         let there : sampleOf (x .timer) g ≡ S.Accepted (sampleValue (x .timer) g) = subst (λ (t : Timer). sampleOf t g ≡ S.Accepted (sampleValue t g)) (held .same .timer) accepted in
         (rw there (fair-sample period (w .ran) (w .atC) x (held .same .tracks) g fair), tt)
@@ -141,7 +143,7 @@ module _ {slots period tick : ℕ} (some : 0 < slots) (good : GoodSetup period t
         time-is period (w .ran) (w .atC) x (same .tracks) g
 
     -- the clock's premises are ours
-    fair-time : (task : Task) → Touches (w .machine) task → (n : ℕ) → Fair period (w .ran) (w .atC) (taskDoes task n) → clock.Fair (timeOf task) x
+    fair-time : (task : Task) → Touches (w .machine) task → (n : ℕ) → Fair period (w .ran) (w .atC) (taskDoes task n) → clock.FairRun (timeOf task) x
     unfolding timeOf
     fair-time (T.Run p) t n fair = (tt, tt)
     fair-time (T.Sample g W.Tell) t n fair = fair-event g fair (stepping.sample-accepted (w .machine) g W.Tell t)
@@ -196,7 +198,7 @@ module _ {slots period tick : ℕ} (some : 0 < slots) (good : GoodSetup period t
     FairTask task = Fair period (w .ran) (w .atC) (happenedBy task (taskStep (w .machine) task .outcome))
 
     sum-true : (g : Gaps) (op : Operation) → taskStep (w .machine) (T.Sample g (W.Operate op)) .outcome ≡ Told.Refused Why.WontFit → Touches (w .machine) (T.Sample g (W.Operate op)) → FairTask (T.Sample g (W.Operate op)) → True slots period tick (afterTask (T.Sample g (W.Operate op)) w)
-    unfolding FairTask happenedBy afterTouch seen answeredOf toldOf
+    unfolding FairTask happenedBy columns seen answeredOf toldOf
     sum-true g op e t fair =
         rw e
         (touched-true w (T.Sample g (W.Operate op)) held t 0 (rw e at fair) (samples g) refl refl (sum-adds (w .machine) g op e) (sum-announces (w .machine) g op e)
@@ -226,6 +228,6 @@ module _ {slots period tick : ℕ} (some : 0 < slots) (good : GoodSetup period t
   all-true [] w fair held = held
   all-true (d ∷ ds) w fair held = all-true ds (watch stepOf d w) (fair .1) (watch-true d w (fair .0) held)
 
-pub begin-true : (slots period tick : ℕ) → GoodSetup period tick → True slots period tick (setUp stepOf slots period tick)
+pub begin-true : (slots period tick : ℕ) → GoodSetup period tick → True slots period tick (atSetup stepOf slots period tick)
 unfolding begin-same ledger.after
 begin-true slots period tick good = record { same = begin-same slots period tick good; fair = tt; threads = refl; printed = refl; timely = omega arith }

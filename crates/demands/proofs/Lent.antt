@@ -38,25 +38,25 @@ use Rattle.trace.specs.declared.reader.TraceReader.{TraceReader}
 use Rattle.trace.specs.declared.reader.Item.{Item}
 use Rattle.trace.specs.Handing.{recordsLeft, bytesLeft, itemAt}
 use Rattle.demands.specs.Outcome.{OneOutcomeLent}
-use Rattle.demands.specs.Lent.{Changes, enables, disables, accumulates, Looks, Fresh, Moved, Answers, First, LentOutcomes, ReaderOutcomes}
+use Rattle.demands.specs.Lent.{Changes, enabling, disabling, accumulating, Looks, FreshReader, MovedReader, FromHeld, First, LentOutcomes, ReaderOutcomes}
 
 module _ {M : Type 1} (𝓤 : URA M) (H : Heap 𝓤) (A : Atoms 𝓤) (mem : Memory → SProp 𝓤) (run : Routine → Fun 𝓤) (κ : Lft) (x y : RefT ThreadUsage) (code : ℤ) where
-  pub method-enable-says : method-enable.clauses 𝓤 H A mem run (κ, tt) (x, tt) .ensures tt code (y, tt) ≡ fact 𝓤 (Changes enables tt x code y)
+  pub method-enable-says : method-enable.clauses 𝓤 H A mem run (κ, tt) (x, tt) .ensures tt code (y, tt) ≡ fact 𝓤 (Changes enabling tt x code y)
   method-enable-says = refl
 
-  pub method-disable-says : method-disable.clauses 𝓤 H A mem run (κ, tt) (x, tt) .ensures tt code (y, tt) ≡ fact 𝓤 (Changes disables tt x code y)
+  pub method-disable-says : method-disable.clauses 𝓤 H A mem run (κ, tt) (x, tt) .ensures tt code (y, tt) ≡ fact 𝓤 (Changes disabling tt x code y)
   method-disable-says = refl
 
-  pub method-accumulate-says : (cycles : ℕ) → method-accumulate.clauses 𝓤 H A mem run (κ, tt) (x, (cycles, tt)) .ensures tt code (y, (cycles, tt)) ≡ fact 𝓤 (Changes accumulates cycles x code y)
+  pub method-accumulate-says : (cycles : ℕ) → method-accumulate.clauses 𝓤 H A mem run (κ, tt) (x, (cycles, tt)) .ensures tt code (y, (cycles, tt)) ≡ fact 𝓤 (Changes accumulating cycles x code y)
   method-accumulate-says cycles = refl
 
-  pub c-enable-says : c-enable.clauses 𝓤 H A mem run (κ, tt) (x, tt) .ensures tt code (y, tt) ≡ fact 𝓤 (Changes enables tt x code y)
+  pub c-enable-says : c-enable.clauses 𝓤 H A mem run (κ, tt) (x, tt) .ensures tt code (y, tt) ≡ fact 𝓤 (Changes enabling tt x code y)
   c-enable-says = refl
 
-  pub c-disable-says : c-disable.clauses 𝓤 H A mem run (κ, tt) (x, tt) .ensures tt code (y, tt) ≡ fact 𝓤 (Changes disables tt x code y)
+  pub c-disable-says : c-disable.clauses 𝓤 H A mem run (κ, tt) (x, tt) .ensures tt code (y, tt) ≡ fact 𝓤 (Changes disabling tt x code y)
   c-disable-says = refl
 
-  pub c-accumulate-says : (cycles : ℕ) → c-accumulate.clauses 𝓤 H A mem run (κ, tt) (x, (cycles, tt)) .ensures tt code (y, (cycles, tt)) ≡ fact 𝓤 (Changes accumulates cycles x code y)
+  pub c-accumulate-says : (cycles : ℕ) → c-accumulate.clauses 𝓤 H A mem run (κ, tt) (x, (cycles, tt)) .ensures tt code (y, (cycles, tt)) ≡ fact 𝓤 (Changes accumulating cycles x code y)
   c-accumulate-says cycles = refl
 
 module _ {M : Type 1} (𝓤 : URA M) (H : Heap 𝓤) (A : Atoms 𝓤) (mem : Memory → SProp 𝓤) (run : Routine → Fun 𝓤) (κ : Lft) (x : RefT ThreadUsage) (answer : Bool) where
@@ -76,9 +76,9 @@ leaves u (C.Refused why) refused = refl
 
 pub lent-outcomes : LentOutcomes
 lent-outcomes = record {
-  enable = once-changed enables;
-  disable = once-changed disables;
-  accumulate = once-changed accumulates;
+  enable = once-changed enabling;
+  disable = once-changed disabling;
+  accumulate = once-changed accumulating;
   is-tracked = λ lives thread one other here there p q. p ∙ sym q;
   enable-leaves = λ u more. leaves u (enabled u);
   disable-leaves = λ u more. leaves u (disabled u);
@@ -87,19 +87,19 @@ lent-outcomes = record {
 
 -- a reader that holds a lent trace
 module _ {M : Type 1} (𝓤 : URA M) (H : Heap 𝓤) (A : Atoms 𝓤) (mem : Memory → SProp 𝓤) (run : Routine → Fun 𝓤) (κ : Lft) (trace : RefT (List ℕ)) (d r : TraceReader) (item : Item) (n : ℕ) where
-  pub reader-new-says : reader-new.clauses 𝓤 H A mem run (κ, tt) (trace, tt) .ensures tt r (trace, tt) ≡ fact 𝓤 (Fresh trace r)
+  pub reader-new-says : reader-new.clauses 𝓤 H A mem run (κ, tt) (trace, tt) .ensures tt r (trace, tt) ≡ fact 𝓤 (FreshReader trace r)
   reader-new-says = refl
 
-  pub reader-moved-says : reader-moved.clauses 𝓤 H A mem run (κ, tt) (d, tt) .ensures tt r (d, tt) ≡ fact 𝓤 (Moved d r)
+  pub reader-moved-says : reader-moved.clauses 𝓤 H A mem run (κ, tt) (d, tt) .ensures tt r (d, tt) ≡ fact 𝓤 (MovedReader d r)
   reader-moved-says = refl
 
-  pub reader-next-says : reader-next.clauses 𝓤 H A mem run (κ, tt) (d, tt) .ensures tt item (d, tt) ≡ fact 𝓤 (Answers itemAt d item)
+  pub reader-next-says : reader-next.clauses 𝓤 H A mem run (κ, tt) (d, tt) .ensures tt item (d, tt) ≡ fact 𝓤 (FromHeld itemAt d item)
   reader-next-says = refl
 
-  pub reader-records-left-says : reader-records-left.clauses 𝓤 H A mem run (κ, tt) (d, tt) .ensures tt n (d, tt) ≡ fact 𝓤 (Answers recordsLeft d n)
+  pub reader-records-left-says : reader-records-left.clauses 𝓤 H A mem run (κ, tt) (d, tt) .ensures tt n (d, tt) ≡ fact 𝓤 (FromHeld recordsLeft d n)
   reader-records-left-says = refl
 
-  pub reader-bytes-left-says : reader-bytes-left.clauses 𝓤 H A mem run (κ, tt) (d, tt) .ensures tt n (d, tt) ≡ fact 𝓤 (Answers bytesLeft d n)
+  pub reader-bytes-left-says : reader-bytes-left.clauses 𝓤 H A mem run (κ, tt) (d, tt) .ensures tt n (d, tt) ≡ fact 𝓤 (FromHeld bytesLeft d n)
   reader-bytes-left-says = refl
 
   pub reader-first-item-says : reader-first-item.clauses 𝓤 H A mem run (κ, tt) (trace, tt) .ensures tt item (trace, tt) ≡ fact 𝓤 (First trace item)

@@ -1,6 +1,8 @@
 pub mod Exactly
 pub mod Leaves
-pub mod Refusals
+pub mod Entries
+pub mod Readers
+pub mod Writers
 pub mod Numbers
 pub mod UpstreamTimer
 pub mod UpstreamThread

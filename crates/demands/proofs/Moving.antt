@@ -18,7 +18,8 @@ use Rattle.clock.specs.declared.Timer.{Timer}
 use Rattle.clock.specs.declared.Sampled.the-variants as S
 use Rattle.clock.specs.declared.Announcement.{Announcement}
 use Rattle.clock.specs.declared.Announced.the-variants as N
-use Rattle.clock.specs.Sample.{wholeOf, sampleValue, sampleOf}
+use Rattle.clock.specs.Sample.{cyclesOf, sampleValue}
+use Rattle.clock.specs.Entries.{sampleOf}
 use Rattle.clock.specs.Announce.{announceOf}
 use Rattle.clock.proofs.Run as clock
 use Rattle.books.specs.declared.Operation.{Operation}
@@ -43,10 +44,10 @@ use Rattle.table.specs.declared.tasks.Task.{Task}
 use Rattle.table.specs.declared.tasks.Task.the-variants as T
 use Rattle.table.specs.declared.tasks.Then.the-variants as W
 use Rattle.table.specs.Task.{taskOf}
-use Rattle.table.specs.Table.{malformed}
+use Rattle.table.specs.Table.{malformed, afterTouch}
 use Rattle.machine.specs.declared.Stepped.{Stepped}
 use Rattle.machine.proofs.Making.{operationTells}
-use Rattle.machine.specs.Step.{coreOf, announceRows, lastRows, recordRows, afterTouch, doneBy, stepOf}
+use Rattle.machine.specs.Step.{coreOf, announceRows, lastRows, recordRows, doneBy, stepOf}
 use Rattle.machine.proofs.Accepting.{announcement-is, Samples}
 use Rattle.machine.proofs.Stepping as stepping
 use Rattle.machine.proofs.Stepping.{taskStep, Touches, every-refusal}
@@ -101,7 +102,7 @@ unfolding clock.after
 on-and-on [] more w = refl
 on-and-on (e ∷ es) more w = on-and-on es more (clock.step e w)
 
-pub fair-on : (es more : List clock.Event) (w : clock.World) → clock.Fair es w → clock.Fair more (clock.after es w) → clock.Fair (es ++ more) w
+pub fair-on : (es more : List clock.Event) (w : clock.World) → clock.FairRun es w → clock.FairRun more (clock.after es w) → clock.FairRun (es ++ more) w
 unfolding clock.after
 fair-on [] more w f g = g
 fair-on (e ∷ es) more w f g = (f .0, fair-on es more (clock.step e w) (f .1) g)
@@ -206,7 +207,7 @@ module _ (m : Machine) (x : clock.World) (together : m .timer ≡ x .timer) wher
     unfoldable pub Follows : Task → Type 0
     Follows task = Tracks period (seen (taskDoes task n) after w .ran) (seen (taskDoes task n) after w .atC) (clock.after (timeOf task) x)
 
-    sample-follows : (g : Gaps) → Samples (coreOf m) g → Tracks period (w .ran + wholeOf g) (timeC (w .ran) g) (clock.step (clock.sample g) x)
+    sample-follows : (g : Gaps) → Samples (coreOf m) g → Tracks period (w .ran + cyclesOf g) (timeC (w .ran) g) (clock.step (clock.sample g) x)
     sample-follows g accepted = tracks-sample period (w .ran) (w .atC) x k g (subst (λ (t : Timer). sampleOf t g ≡ S.Accepted (sampleValue t g)) together accepted)
 
     pub follows : (task : Task) → m .ready ≡ true → Touches m task → Follows task

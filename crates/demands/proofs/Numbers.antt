@@ -2,7 +2,7 @@
 use mathlib.Core.Path.{refl}
 use Rattle.systick.specs.Leaves.{elapsedCycles, ticksToCycles, maxTicks, elapsedDecide, announceDecide}
 use Rattle.usage.specs.Leaves.{accumulated}
-use Rattle.books.specs.Stamp.{stampOf}
+use Rattle.books.specs.Running.{stampOf}
 use Rattle.demands.specs.Numbers.{Numbers}
 
 pub numbers : Numbers

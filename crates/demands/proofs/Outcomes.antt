@@ -152,15 +152,14 @@ use Rattle.table.proofs.Outcome.number.Reads as table-Outcome-number
 use Rattle.table.proofs.Outcome.x.Reads as table-Outcome-x
 use Rattle.table.proofs.Outcome.y.Reads as table-Outcome-y
 use Rattle.table.proofs.malformed.Reads as table-malformed
-use Rattle.table.proofs.tested.Reads as table-tested
 use Rattle.table.proofs.tasks.task_of.Reads as table-task-of
 use Rattle.table.proofs.tasks.asks_nothing.Reads as table-asks-nothing
 use Rattle.table.proofs.tasks.asks_cycles.Reads as table-asks-cycles
 use Rattle.table.proofs.tasks.asks_then.Reads as table-asks-then
 use Rattle.table.proofs.tasks.asks_report.Reads as table-asks-report
 use Rattle.table.proofs.tasks.asks_setup.Reads as table-asks-setup
-use Rattle.changes.proofs.change_of.Reads as changes-change-of
-use Rattle.changes.proofs.change_at.Reads as changes-change-at
+use Rattle.table.proofs.changes.change_of.Reads as changes-change-of
+use Rattle.table.proofs.changes.change_at.Reads as changes-change-at
 use Rattle.machine.proofs.Machine.core.Reads as machine-Machine-core
 use Rattle.machine.proofs.report_values.Reads as machine-report-values
 use Rattle.machine.proofs.step.Reads as machine-step
@@ -430,7 +429,6 @@ pub table-outcomes :
     OneOutcome table-Outcome-x.Post ×
     OneOutcome table-Outcome-y.Post ×
     OneOutcome table-malformed.Post ×
-    OneOutcome table-tested.Post ×
     OneOutcome table-task-of.Post ×
     OneOutcome table-asks-nothing.Post ×
     OneOutcome table-asks-cycles.Post ×
@@ -438,7 +436,6 @@ pub table-outcomes :
     OneOutcome table-asks-report.Post ×
     OneOutcome table-asks-setup.Post
 table-outcomes = (
-  once _,
   once _,
   once _,
   once _,

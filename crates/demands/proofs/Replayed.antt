@@ -11,12 +11,12 @@ use Rattle.clock.specs.declared.Timer.{Timer}
 use Rattle.clock.proofs.Run as clock
 use Rattle.trace.specs.declared.Decoded.{Decoded}
 use Rattle.trace.specs.Decode.{decodeOf}
-use Rattle.trace.specs.Handing.{recordsLeft, itemAt, placeAfter, handedFrom}
+use Rattle.trace.specs.Handing.{recordsLeft, itemAt, placeAfter}
 use Rattle.machine.specs.declared.Machine.{Machine}
 use Rattle.machine.specs.Step.{stepOf}
 use Rattle.transcript.specs.Replay.{recordsFrom, machineAfter}
-use Rattle.demands.specs.Trace.{happened, watch, watchAll, setUp}
-use Rattle.demands.specs.Replayed.{SameRun, EndsTrue, HandsOut}
+use Rattle.demands.specs.Trace.{happened, watch, watchAll, atSetup}
+use Rattle.demands.specs.Replayed.{handedFrom, SameRun, EndsTrue, HandsOut}
 use Rattle.demands.proofs.Counting.{cycles-are}
 use Rattle.demands.proofs.Watching.{seen-machine}
 use Rattle.demands.proofs.Following.{all-true, begin-true}
@@ -32,10 +32,10 @@ same-run (d ∷ ds) w =
 pub ends-true : EndsTrue
 unfolding machineAfter
 ends-true slots period tick some good trace ds begins fair =
-    let w = watchAll stepOf ds (setUp stepOf slots period tick) in
-    let held = all-true some good ds (setUp stepOf slots period tick) fair (begin-true slots period tick good) in
+    let w = watchAll stepOf ds (atSetup stepOf slots period tick) in
+    let held = all-true some good ds (atSetup stepOf slots period tick) fair (begin-true slots period tick good) in
     let same = held .same in
-    let left = sym (same-run ds (setUp stepOf slots period tick)) in
+    let left = sym (same-run ds (atSetup stepOf slots period tick)) in
     let cycles = ap (λ (t : Timer). t .counter .cycles .0) (same .timer) ∙ cycles-are period (w .ran) (w .atC) (clock.after (same .events) (clock.start period tick)) (same .tracks) in
     let last = demand3 slots period tick some good ds .1 fair .reads in
     rw (begins, left, same .ready, cycles, last) refl

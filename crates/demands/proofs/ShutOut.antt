@@ -6,18 +6,19 @@ use mathlib.Core.List.{[], _∷_}
 use native.Mathlib.Omega.{arith}
 use Rattle.error.proofs.Tests.{clash}
 use Rattle.error.specs.Numbers.{max64}
-use Rattle.usage.specs.Leaves.{enabled, accumulated, averageCycles}
-use Rattle.usage.specs.Record.{newIdle}
+use Rattle.usage.specs.Leaves.{enabled, accumulated}
+use Rattle.usage.specs.Formulas.{newIdle, averageCycles}
 use Rattle.counter.specs.Cycle.{cycle, runN, wraps}
-use Rattle.counter.specs.Entries.{goodPeriod, inRange, ranOf}
+use Rattle.counter.specs.Entries.{ranOf}
+use Rattle.counter.specs.Readings.{goodPeriod, inRange}
 use Rattle.clock.specs.Timer.{wellFormed, GoodSetup}
-use Rattle.clock.specs.Sample.{gaps, sampleOf}
+use Rattle.clock.specs.Entries.{gaps, sampleOf}
 use Rattle.clock.specs.Announce.{announceOf}
-use Rattle.books.specs.Stamp.{stampOf}
-use Rattle.books.specs.Entries.{runs, charged, withChange, onward, closeOf, stopOf, switchOf, altered, reopenOf, alterOf, enterOf}
-use Rattle.books.specs.Enter.{unrecorded, past, busy, entryOf, concerned}
-use Rattle.ledger.specs.Operate.{storedIn, recordOf, operateOf}
-use Rattle.ledger.specs.Says.{answerSays}
+use Rattle.books.specs.Entries.{charged, withChange, onward, closeOf, stopOf, switchOf, altered, reopenOf, alterOf, enterOf}
+use Rattle.books.specs.Running.{isRunning, stampOf, unrecorded, past, busy, concerned}
+use Rattle.books.specs.Enter.{entryOf}
+use Rattle.ledger.specs.Operate.{storedIn, operateOf}
+use Rattle.ledger.specs.Records.{threadRecord, answerSays}
 use Rattle.ledger.specs.Sums.{sumOf}
 use Rattle.ledger.specs.Threads as ledger
 use Rattle.trace.specs.declared.Record.the-variants as K
@@ -27,10 +28,10 @@ use Rattle.table.specs.declared.Values.{Values}
 use Rattle.table.specs.declared.Outcome.the-variants as Told
 use Rattle.table.specs.declared.Reason.the-variants as Why
 use Rattle.table.specs.Task.{taskOf, askedBy}
-use Rattle.table.specs.Table.{malformed}
+use Rattle.table.specs.Table.{malformed, columns}
 use Rattle.books.specs.Laws.{closes, rises, tooMany, full}
 use Rattle.table.specs.Says.{values}
-use Rattle.machine.specs.Step.{announceRows, lastRows, recordRows, afterTouch, doneBy, acceptedBy, freshMachine, stepOf}
+use Rattle.machine.specs.Step.{announceRows, lastRows, recordRows, doneBy, acceptedBy, freshMachine, stepOf}
 use Rattle.machine.specs.Shown as handed
 use Rattle.demands.specs.Trace.{happened, seen, watchAll, FairTrace}
 use Rattle.demands.specs.Shown.{taken}
@@ -43,7 +44,7 @@ unfolding goodPeriod
 ten = refl
 
 pub shut-out : ShutOut
-unfolding enabled accumulated averageCycles cycle runN wraps goodPeriod inRange ranOf wellFormed sampleOf announceOf stampOf runs charged withChange onward closeOf stopOf switchOf altered reopenOf alterOf enterOf unrecorded past busy entryOf concerned storedIn operateOf sumOf ledger.closesNow ledger.begins ledger.openAfter ledger.trackedAfter taskOf askedBy malformed stepOf afterTouch happened seen watchAll FairTrace closes rises tooMany full announceRows lastRows recordRows answerSays doneBy acceptedBy
+unfolding enabled accumulated averageCycles cycle runN wraps goodPeriod inRange ranOf wellFormed sampleOf announceOf stampOf isRunning charged withChange onward closeOf stopOf switchOf altered reopenOf alterOf enterOf unrecorded past busy entryOf concerned storedIn operateOf sumOf ledger.closesNow ledger.begins ledger.openAfter ledger.trackedAfter taskOf askedBy malformed stepOf columns happened seen watchAll FairTrace closes rises tooMany full announceRows lastRows recordRows answerSays doneBy acceptedBy
 shut-out = record {
   refuser-falls = λ law.
       let accepted = law .exactly (handed.timed (handed.counter 10 10 false 0) (handed.clock 4 0 0 0)) (D.Accepted (K.Run 0)) .accepted .1 (refl, (refl, (refl, (refl, (refl, (refl, (refl, (refl, tt)))))))) in
@@ -98,8 +99,14 @@ shut-out = record {
       let e : _≡_ {A = ℕ} 8 4 = ap (λ (v : Values). v .y) (law .records m (K.Report 0) (values 8 8) refl .0) in
       absurd (omega arith);
   no-windows-falls = λ law.
-      let e : _≡_ {A = ℕ} 0 1 = ap (λ (n : Machine). recordOf (n .ledger) 0 .«num_windows») (law .records (handed.timed (handed.counter 10 10 false 0) (handed.clock 4 0 0 0)) (K.Enable 0 atOnce) (values 0 0) refl .1) in
+      let e : _≡_ {A = ℕ} 0 1 = ap (λ (n : Machine). threadRecord (n .ledger) 0 .«num_windows») (law .records (handed.timed (handed.counter 10 10 false 0) (handed.clock 4 0 0 0)) (K.Enable 0 atOnce) (values 0 0) refl .1) in
       clash e;
+  windows-at-start-falls = λ law.
+      let e : _≡_ {A = ℕ} 1 0 = ap (λ (n : Machine). threadRecord (n .ledger) 0 .«num_windows») (law .records (handed.timed (handed.counter 10 10 false 0) (handed.clock 4 0 0 0)) (K.Start 0 atOnce) (values 0 0) refl .1) in
+      absurd (omega arith);
+  charges-untracked-falls = λ law.
+      let w = law 2 10 4 (omega arith) ten (taken (K.Run 1 ∷ K.Start 0 atOnce ∷ K.Run 5 ∷ K.Stop atOnce ∷ [])) .1 (omega arith) .totals 0 (omega arith) in
+      absurd (let low = w .low in omega arith);
   tells-again-falls = λ law.
       let e : _≡_ {A = ℕ} 0 8 = law 2 10 4 (omega arith) ten (taken (K.Run 10 ∷ K.Sample atOnce ∷ K.Announce ∷ K.Sample atOnce ∷ [])) .0 .announced in
       absurd (omega arith);

@@ -8,7 +8,8 @@ use lib.Signed.{mag}
 use Rattle.error.proofs.Tests.{clash}
 use Rattle.error.specs.Numbers.{ok, minus, max32, max64}
 use Rattle.units.specs.declared.Cycles.{Cycles}
-use Rattle.usage.specs.Leaves.{enabled, accumulated, elapsedCycles, sysEnableDecide, sysDisableDecide, startDecide, stopDecide}
+use Rattle.usage.specs.Leaves.{enabled, accumulated, sysEnableDecide, sysDisableDecide, startDecide, stopDecide}
+use Rattle.usage.specs.Formulas.{elapsedStamps}
 use Rattle.usage.specs.Says.{outcomeOf, changedSays, kept, applies}
 use Rattle.usage.specs.declared.ThreadUsage.{ThreadUsage}
 use Rattle.usage.specs.declared.Changed.{Changed}
@@ -80,7 +81,7 @@ accumulate-clauses u cycles = by-case (either (u .«total_cycles» .0 + cycles) 
         })
 
 -- wrapping: what is added to the old stamp gives the new one
-difference-back : (now usage0 : ℕ) → now < 2 ^ 32 → usage0 < 2 ^ 32 → (elapsedCycles now usage0 < 2 ^ 32) × ((usage0 + elapsedCycles now usage0) % 2 ^ 32 ≡ now)
+difference-back : (now usage0 : ℕ) → now < 2 ^ 32 → usage0 < 2 ^ 32 → (elapsedStamps now usage0 < 2 ^ 32) × ((usage0 + elapsedStamps now usage0) % 2 ^ 32 ≡ now)
 difference-back now usage0 a b = (omega arith, omega arith)
 
 pub thread-clauses : ThreadClauses

@@ -1,4 +1,4 @@
--- Every clause and lemma of upstream's systick.rs follows from our definitions.
+-- Every clause and lemma of upstream's systick.rs follows from the exact leaves and what is read off their answers.
 use Prim.Native.Nat.{ℕ, _+_, _-_, _*_, _/_, _≤_, _<_, zero-le}
 use mathlib.Core.Path.{_≡_, refl, sym, ap, _∙_}
 use mathlib.Core.Bool.{Bool, true, false, cond}
@@ -9,8 +9,8 @@ use borrow.Author.Tests.{le-leb, lt-leb, leb-false}
 use Rattle.error.specs.Numbers.{max32, max64}
 use Rattle.units.specs.declared.Cycles.{Cycles}
 use Rattle.units.specs.declared.Ticks.{Ticks}
-use Rattle.systick.specs.Leaves.{elapsedCycles, difference, cyclesToTicks, ticksToCycles, maxTicks, maxLoad, mostTicks, elapsedDecide, overflowAfter, announceDecide}
-use Rattle.systick.specs.Says.{elapsedCyclesSays, cyclesToTicksSays, ticksToCyclesSays, maxTicksSays, elapsedDecideSays, announceDecideSays}
+use Rattle.systick.specs.Leaves.{elapsedCycles, difference, cyclesToTicks, ticksToCycles, maxTicks, maxLoad, mostTicks, elapsedDecide, announceDecide}
+use Rattle.systick.specs.Says.{elapsedCyclesSays, ticksToCyclesSays, elapsedDecideSays, announceDecideSays}
 use Rattle.systick.specs.declared.ElapsedCycles.the-variants as E
 use Rattle.systick.specs.declared.CyclesToTicks.the-variants as T
 use Rattle.systick.specs.declared.TicksToCycles.the-variants as C
@@ -18,7 +18,9 @@ use Rattle.systick.specs.declared.MaxTicks.the-variants as M
 use Rattle.systick.proofs.Outcomes as timer
 use Rattle.systick.proofs.Bounds.{product-within, product-over}
 use Rattle.demands.specs.UpstreamTimer.{ElapsedCyclesEnsures, TicksToCyclesEnsures, ElapsedDecideEnsures, AnnounceDecideEnsures, TimerClauses, TimerLemmas}
-use Rattle.demands.proofs.Leaves as demand2
+use Rattle.demands.proofs.Exactly.{said, said-bad, said-over, fits, given}
+use Rattle.demands.proofs.Leaves.{leaves-exact}
+use Rattle.demands.proofs.Readers.{readers}
 
 -- a difference does not pass the load
 difference-within : (last current load : ℕ) → last ≤ load → current ≤ load → difference last current load ≤ load
@@ -30,33 +32,23 @@ difference-within last current load a b = by-test (leb current last) refl
 
 -- an accepted difference is the formula's, and both values were within the load
 accepted-difference : (last current load elapsed : ℕ) → elapsedCycles last current load ≡ E.Accepted elapsed → (last ≤ load) × (current ≤ load) × (elapsed ≡ difference last current load)
-unfolding elapsedCyclesSays
 accepted-difference last current load elapsed e =
-    let exact = demand2.elapsed-cycles-exact last current load in
-    let fits = exact .accepted .0 (ap (λ a. elapsedCyclesSays a .number) e) in
-    (fits .0, fits .1, sym (ap (λ a. elapsedCyclesSays a .value) e) ∙ exact .gives fits)
+    let is = given (readers .elapsed-cycles) (leaves-exact .elapsed-cycles last current load) elapsed e in
+    (is .0 .0, is .0 .1, is .1)
 
 -- an accepted quotient is the formula's, of a tick above 0
 accepted-ticks : (cycles : Cycles) (tick : ℕ) (ticks : Ticks) → cyclesToTicks cycles tick ≡ T.Accepted ticks → (0 < tick) × (ticks .0 ≡ cycles .0 / tick)
-unfolding cyclesToTicksSays
 accepted-ticks cycles tick ticks e =
-    let exact = demand2.cycles-to-ticks-exact cycles tick in
-    let above = exact .accepted .0 (ap (λ a. cyclesToTicksSays a .number) e) in
-    (above, ap (λ (t : Ticks). t .0) (sym (ap (λ a. cyclesToTicksSays a .value) e) ∙ exact .gives above))
+    let is = given (readers .cycles-to-ticks) (leaves-exact .cycles-to-ticks cycles tick) ticks e in
+    (is .0, ap (λ (t : Ticks). t .0) (is .1))
 
 accepted-cycles : (ticks : Ticks) (tick : ℕ) (cycles : Cycles) → ticksToCycles ticks tick ≡ C.Accepted cycles → (ticks .0 * tick ≤ max64) × (cycles .0 ≡ ticks .0 * tick)
-unfolding ticksToCyclesSays
 accepted-cycles ticks tick cycles e =
-    let exact = demand2.ticks-to-cycles-exact ticks tick in
-    let fits = exact .accepted .0 (ap (λ a. ticksToCyclesSays a .number) e) in
-    (fits, ap (λ (c : Cycles). c .0) (sym (ap (λ a. ticksToCyclesSays a .value) e) ∙ exact .gives fits))
+    let is = given (readers .ticks-to-cycles) (leaves-exact .ticks-to-cycles ticks tick) cycles e in
+    (is .0, ap (λ (c : Cycles). c .0) (is .1))
 
 accepted-most : (tick : ℕ) (ticks : Ticks) → maxTicks tick ≡ M.Accepted ticks → ticks .0 ≡ mostTicks tick
-unfolding maxTicksSays
-accepted-most tick ticks e =
-    let exact = demand2.max-ticks-exact tick in
-    let above = exact .accepted .0 (ap (λ a. maxTicksSays a .number) e) in
-    ap (λ (t : Ticks). t .0) (sym (ap (λ a. maxTicksSays a .value) e) ∙ exact .gives above)
+accepted-most tick ticks e = ap (λ (t : Ticks). t .0) (given (readers .max-ticks) (leaves-exact .max-ticks tick) ticks e .1)
 
 most-fits : (tick : ℕ) → mostTicks tick * tick ≤ maxLoad
 most-fits tick = by-test (eqb (maxLoad / tick) 0)
@@ -72,10 +64,10 @@ quotients-keep-order a b k p h = (le-div-iff-mul-le p) .1 (le-trans (div-mul-le-
 
 elapsed-clauses : (last current load : ℕ) → last ≤ load → current ≤ load → ElapsedCyclesEnsures last current load (elapsedCyclesSays (elapsedCycles last current load))
 elapsed-clauses last current load a b =
-    let exact = demand2.elapsed-cycles-exact last current load in
-    let is = exact .gives (a, b) in
+    let said = said (readers .elapsed-cycles) (leaves-exact .elapsed-cycles last current load) (a, b) in
+    let is = ap (λ s. s .value) said in
     record {
-      accepted = exact .accepted .1 (a, b);
+      accepted = ap (λ s. s .number) said;
       counted-down = λ h. is ∙ simp (le-leb _ _ h);
       wrapped = λ h. is ∙ simp (lt-leb _ _ h) (omega arith);
       bounded = rw is (difference-within last current load a b);
@@ -83,31 +75,33 @@ elapsed-clauses last current load a b =
 
 decide-clauses : (val1 val2 : ℕ) (flag : Bool) (load overflow : ℕ) → val2 ≤ load → overflow + load ≤ max32 → load - val2 + overflow + load ≤ max32 → ElapsedDecideEnsures val1 val2 flag load overflow (elapsedDecideSays (elapsedDecide val1 val2 flag load overflow))
 decide-clauses val1 val2 flag load overflow a b h =
-    let exact = demand2.elapsed-decide-exact val1 val2 flag load overflow in
-    let is = exact .gives (a, h) in
+    let said = said (readers .elapsed-decide .0) (leaves-exact .elapsed-decide val1 val2 flag load overflow) (a, h) in
+    let is = ap (λ s. s .value) said in
     record {
-      accepted = exact .accepted .1 (a, h);
+      accepted = ap (λ s. s .number) said;
       wrap = ap (λ d. d .«wrap_detected») is;
-      kept = λ w. ap (λ d. d .«new_overflow_cyc») is ∙ ap (λ t. overflowAfter t load overflow) (sym (ap (λ d. d .«wrap_detected») is) ∙ w);
-      added = λ w. ap (λ d. d .«new_overflow_cyc») is ∙ ap (λ t. overflowAfter t load overflow) (sym (ap (λ d. d .«wrap_detected») is) ∙ w);
+      kept = λ w. ap (λ d. d .«new_overflow_cyc») is ∙ ap (λ t. cond t (overflow + load) overflow) (sym (ap (λ d. d .«wrap_detected») is) ∙ w);
+      added = λ w. ap (λ d. d .«new_overflow_cyc») is ∙ ap (λ t. cond t (overflow + load) overflow) (sym (ap (λ d. d .«wrap_detected») is) ∙ w);
     }
 
 announce-clauses : (count announced : Cycles) (overflow tick : ℕ) → 0 < tick → count .0 + overflow ≤ max64 → announced .0 ≤ count .0 + overflow → AnnounceDecideEnsures count announced overflow tick (announceDecideSays (announceDecide count announced overflow tick))
 announce-clauses count announced overflow tick p a b =
-    let exact = demand2.announce-decide-exact count announced overflow tick in
+    let exact = leaves-exact .announce-decide count announced overflow tick in
+    let reads = readers .announce-decide .0 in
     record {
-      counted = λ n. ap (λ d. d .«new_cycle_count» .0) (exact .gives (exact .accepted .0 n));
-      ticks = λ n. rw (exact .gives (exact .accepted .0 n)) refl;
+      counted = λ n. ap (λ s. s .value .«new_cycle_count» .0) (said reads exact (fits reads exact n));
+      ticks = λ n. rw (said reads exact (fits reads exact n)) refl;
     }
 
 product-clauses : (ticks : Ticks) (tick : ℕ) → TicksToCyclesEnsures ticks tick (ticksToCyclesSays (ticksToCycles ticks tick))
 unfolding ticksToCyclesSays
 product-clauses ticks tick =
-    let exact = demand2.ticks-to-cycles-exact ticks tick in
+    let exact = leaves-exact .ticks-to-cycles ticks tick in
+    let reads = readers .ticks-to-cycles in
     record {
       no-tick = λ e. let is = ap ticksToCyclesSays (timer.cycles-of-nothing ticks tick e) in (ap (λ said. said .number) is, ap (λ said. said .value .0) is);
-      none = λ p h. exact .overflow .1 (product-over max64 (ticks .0) tick p h);
-      some = λ p h. let fits = product-within max64 (ticks .0) tick p h in (exact .accepted .1 fits, ap (λ (c : Cycles). c .0) (exact .gives fits));
+      none = λ p h. ap (λ s. s .number) (said-over reads exact (product-over max64 (ticks .0) tick p h));
+      some = λ p h. let is = said reads exact (product-within max64 (ticks .0) tick p h) in (ap (λ s. s .number) is, ap (λ s. s .value .0) is);
     }
 
 -- there and back, over the value that the answer says
@@ -115,7 +109,7 @@ back-again : (ticks : Ticks) (tick : ℕ) → 0 < tick → ticks .0 ≤ max64 / 
 unfolding ticksToCyclesSays
 back-again ticks tick p h =
     let given = timer.cycles-given ticks tick (product-within max64 (ticks .0) tick p h) in
-    demand2.round-trip ticks tick (ticksToCyclesSays (ticksToCycles ticks tick) .value) p
+    leaves-exact .round-trip ticks tick (ticksToCyclesSays (ticksToCycles ticks tick) .value) p
     (given ∙ ap C.Accepted (sym (ap (λ a. ticksToCyclesSays a .value) given)))
 
 truncation : (cycles : Cycles) (tick : ℕ) (ticks : Ticks) → cycles .0 ≤ max64 → cyclesToTicks cycles tick ≡ T.Accepted ticks → (ticksToCycles ticks tick ≡ C.Accepted (record { 0 = ticks .0 * tick })) × (ticks .0 * tick ≤ cycles .0) × (cycles .0 < ticks .0 * tick + tick)
@@ -128,14 +122,14 @@ truncation cycles tick ticks h e =
 pub timer-clauses : TimerClauses
 timer-clauses = record {
   elapsed-cycles = elapsed-clauses;
-  cycles-to-ticks = λ cycles tick. let exact = demand2.cycles-to-ticks-exact cycles tick in record {
-    none = exact .invalid .1;
-    some = λ p. (exact .accepted .1 p, ap (λ (t : Ticks). t .0) (exact .gives p));
+  cycles-to-ticks = λ cycles tick. let exact = leaves-exact .cycles-to-ticks cycles tick in record {
+    none = λ e. ap (λ s. s .number) (said-bad (readers .cycles-to-ticks) exact e);
+    some = λ p. let is = said (readers .cycles-to-ticks) exact p in (ap (λ s. s .number) is, ap (λ s. s .value .0) is);
   };
   ticks-to-cycles = product-clauses;
-  max-ticks = λ tick. let exact = demand2.max-ticks-exact tick in record {
-    none = exact .invalid .1;
-    some = exact .accepted .1;
+  max-ticks = λ tick. let exact = leaves-exact .max-ticks tick in record {
+    none = λ e. ap (λ s. s .number) (said-bad (readers .max-ticks) exact e);
+    some = λ p. ap (λ s. s .number) (said (readers .max-ticks) exact p);
   };
   elapsed-decide = decide-clauses;
   announce-decide = announce-clauses;

@@ -8,7 +8,7 @@ use native.Mathlib.Nat.{add-zero, add-mul, zero-mul}
 use lib.ListN.{length, length-set, length-replicate}
 use Rattle.error.proofs.Ordered.{by-outcome}
 use Rattle.units.specs.declared.Cycles.{Cycles}
-use Rattle.usage.specs.Record.{newIdle}
+use Rattle.usage.specs.Formulas.{newIdle}
 use Rattle.counter.specs.Cycle.{runN, wraps}
 use Rattle.clock.specs.declared.Gaps.{Gaps}
 use Rattle.clock.specs.declared.Timer.{Timer}
@@ -21,12 +21,13 @@ use Rattle.clock.proofs.Runs.{every-run}
 use Rattle.books.specs.declared.Operation.{Operation}
 use Rattle.books.specs.declared.Entered.{Entered}
 use Rattle.books.specs.declared.Entered.the-variants as E
-use Rattle.books.specs.Enter.{concerned}
+use Rattle.books.specs.Running.{concerned}
 use Rattle.ledger.specs.declared.Ledger.{Ledger}
 use Rattle.ledger.specs.declared.Answer.{Answer}
 use Rattle.ledger.specs.declared.Answer.the-variants as A
 use Rattle.ledger.specs.declared.Ledgered.{Ledgered}
-use Rattle.ledger.specs.Operate.{freshOf, refusedWith, storedIn, operateTests, operateOf}
+use Rattle.ledger.specs.Operate.{refusedWith, storedIn, operateTests, operateOf}
+use Rattle.ledger.specs.Records.{freshLedger}
 use Rattle.trace.specs.declared.Record.{Record}
 use Rattle.trace.specs.declared.Record.the-variants as K
 use Rattle.ledger.specs.Threads.{begins}
@@ -39,12 +40,13 @@ use Rattle.table.specs.declared.tasks.Task.{Task}
 use Rattle.table.specs.declared.tasks.Task.the-variants as T
 use Rattle.table.specs.declared.tasks.Then.the-variants as W
 use Rattle.table.specs.Task.{taskOf}
+use Rattle.table.specs.Table.{columns}
 use Rattle.machine.specs.declared.Machine.{Machine}
 use Rattle.machine.specs.declared.Stepped.{Stepped}
-use Rattle.machine.specs.Step.{lastRows, afterTouch, doneBy, freshMachine, stepOf}
+use Rattle.machine.specs.Step.{lastRows, doneBy, freshMachine, stepOf}
 use Rattle.machine.proofs.Stepping as stepping
 use Rattle.machine.proofs.Stepping.{taskStep, Touches}
-use Rattle.demands.specs.Trace.{Does, nothing, runs, tell, samples, operates, Watched, seen, watch, watchAll, setUp, happened}
+use Rattle.demands.specs.Trace.{Does, nothing, runs, tell, samples, operates, Watched, seen, watch, watchAll, atSetup, happened}
 use Rattle.demands.proofs.Counting.{Tracks}
 use Rattle.demands.proofs.Moving.{taskDoes, happenedBy, happened-is, Ending, taken, summed, left, timeOf, on-and-on, entries-on, ending, Moved, moved, Follows, follows, answeredOf, adds, toldOf, announced-after, sum-adds, sum-announces, refused-left}
 
@@ -179,7 +181,7 @@ module _ {slots period tick : ℕ} (some : 0 < slots) (good : GoodSetup period t
   left-same w machine e same = record { ready = rw e (same .ready); events = same .events; timer = rw e (same .timer); tracks = same .tracks; entries = same .entries; entered = rw e (same .entered); rise = rw e (same .rise); told = rw e (same .told) }
 
   task-same : (task : Task) (w : Watched) → Same slots period tick w → Same slots period tick (afterTask task w)
-  unfolding happenedBy afterTouch seen answeredOf toldOf
+  unfolding happenedBy columns seen answeredOf toldOf
   task-same task w same = by-ending (ending (w .machine) task)
     where
       after-sum : (g : Gaps) (op : Operation) → taskStep (w .machine) (T.Sample g (W.Operate op)) .outcome ≡ Told.Refused Why.WontFit → Touches (w .machine) (T.Sample g (W.Operate op)) → Same slots period tick (afterTask (T.Sample g (W.Operate op)) w)
@@ -200,13 +202,13 @@ module _ {slots period tick : ℕ} (some : 0 < slots) (good : GoodSetup period t
   all-same [] w same = same
   all-same (d ∷ ds) w same = all-same ds (watch stepOf d w) (watch-same d w same)
 
-pub setup-machine : (slots period tick : ℕ) → GoodSetup period tick → setUp stepOf slots period tick .machine ≡ record { ready = true; timer = clock.start period tick .timer; ledger = ledger.begin slots .ledger }
+pub setup-machine : (slots period tick : ℕ) → GoodSetup period tick → atSetup stepOf slots period tick .machine ≡ record { ready = true; timer = clock.start period tick .timer; ledger = ledger.begin slots .ledger }
 unfolding taskOf lastRows doneBy
 setup-machine slots period tick good =
     ap (λ (s : Stepped). s .machine) (stepping.of-task (freshMachine slots) (K.Setup (record { period = period; tick = tick })) ∙ stepping.done (freshMachine slots) (T.Setup (record { period = period; tick = tick })) refl (stepping.setup-touches (freshMachine slots) (record { period = period; tick = tick }) refl good refl)) ∙
-    ap (λ (n : ℕ). record { ready = true; timer = clock.start period tick .timer; ledger = freshOf n }) (length-replicate slots newIdle)
+    ap (λ (n : ℕ). record { ready = true; timer = clock.start period tick .timer; ledger = freshLedger n }) (length-replicate slots newIdle)
 
-unfoldable pub begin-same : (slots period tick : ℕ) → GoodSetup period tick → Same slots period tick (setUp stepOf slots period tick)
+unfoldable pub begin-same : (slots period tick : ℕ) → GoodSetup period tick → Same slots period tick (atSetup stepOf slots period tick)
 unfolding clock.after ledger.after runN wraps
 begin-same slots period tick good =
     let e = setup-machine slots period tick good in

@@ -1,20 +1,20 @@
--- Demand 3, over whole traces from setup: any list of records, refused ones included, by a machine's own step.
+-- Believed: demand 3, over whole traces from setup. Any list of records, refused ones included, by a machine's own step.
 use Prim.Native.Nat.{ℕ, _+_, _*_, _/_, _<_}
 use mathlib.Core.Path.{_≡_}
 use mathlib.Core.List.{List}
 use Rattle.clock.specs.declared.Gaps.{Gaps}
 use Rattle.clock.specs.Timer.{GoodSetup}
-use Rattle.clock.specs.Announce.{LargestMultiple}
-use Rattle.ledger.specs.Operate.{recordOf}
+use Rattle.clock.specs.Multiple.{LargestMultiple}
+use Rattle.ledger.specs.Records.{threadRecord}
 use Rattle.ledger.specs.Sums.{TotalNear, ChainNear}
 use Rattle.trace.specs.declared.Record.the-variants as K
 use Rattle.trace.specs.declared.Decoded.{Decoded}
 use Rattle.trace.specs.declared.Decoded.the-variants as D
-use Rattle.machine.specs.declared.Machine.{Machine}
-use Rattle.machine.specs.declared.Stepped.{Stepped}
 use Rattle.table.specs.declared.Values.{Values}
 use Rattle.table.specs.declared.Outcome.the-variants as Told
-use Rattle.demands.specs.Trace.{Watched, FairSample, timeC, watchAll, setUp, FairTrace}
+use Rattle.machine.specs.declared.Machine.{Machine}
+use Rattle.machine.specs.declared.Stepped.{Stepped}
+use Rattle.demands.specs.Trace.{Watched, FairSample, timeC, watchAll, atSetup, FairTrace}
 
 module _ (step : Machine → Decoded → Stepped) (period tick : ℕ) where
   -- an accepted announcement, from a machine to the next, with its answer
@@ -39,14 +39,13 @@ module _ (step : Machine → Decoded → Stepped) (period tick : ℕ) where
     -- each clock reading equals the cycles run by then
     pub reads : w .machine .timer .clock .last .0 ≡ w .atC
     pub shows : (g : Gaps) (answered : Values) → FairSample period (w .ran) (w .atC) g → step (w .machine) (D.Accepted (K.Sample g)) .outcome ≡ Told.Accepted answered → w .machine .timer .clock .count .0 + answered .x ≡ timeC (w .ran) g
-    -- each thread's total misses its true tracked cycles, over closed stretches, by at most one per stretch that begins or
-    -- ends on a multiple of 2^32, where none exceeds 2^32 - 2 cycles
-    pub totals : (i : ℕ) → TotalNear i (recordOf (w .machine .ledger) i .«total_cycles» .0) (w .threads .closed)
+    -- each thread's total misses its true tracked cycles, over closed stretches, by at most one per stretch that begins or ends on a multiple of 2^32, where none exceeds 2^32 - 2 cycles
+    pub totals : (i : ℕ) → TotalNear i (threadRecord (w .machine .ledger) i .«total_cycles» .0) (w .threads .closed)
     -- all stretches since one start, summed as they were answered, miss by at most one
     pub chain : ChainNear (w .since) (w .threads .last) (w .threads .times)
 
 abbrev pub Demand3 : (Machine → Decoded → Stepped) → Type 0
 Demand3 step =
     (slots period tick : ℕ) → 0 < slots → GoodSetup period tick → (ds : List Decoded) →
-    let w = watchAll step ds (setUp step slots period tick) in
-    Always step period tick w × (FairTrace step period ds (setUp step slots period tick) → Fairly step period tick w)
+    let w = watchAll step ds (atSetup step slots period tick) in
+    Always step period tick w × (FairTrace step period ds (atSetup step slots period tick) → Fairly step period tick w)

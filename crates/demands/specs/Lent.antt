@@ -1,10 +1,9 @@
--- What is proved by hand: a thread record that is lent, in Rattle and from C, and a reader that holds a lent trace. What
--- their contracts say, and that it is one outcome.
-use lib.IntN.{ℤ}
+-- Evidence: what is proved by hand, a thread record that is lent, in Rattle and from C, and a reader that holds a lent trace. What their contracts say, and that it is one outcome.
 use Prim.Native.Nat.{ℕ}
 use mathlib.Core.List.{List}
 use mathlib.Core.Path.{_≡_}
 use mathlib.Core.Bool.{Bool}
+use lib.IntN.{ℤ}
 use denote.Ref.{RefT, now}
 use Rattle.error.specs.Numbers.{ok}
 use Rattle.usage.specs.declared.ThreadUsage.{ThreadUsage}
@@ -19,14 +18,14 @@ use Rattle.demands.specs.Outcome.{OneOutcome, OneOutcomeLent}
 abbrev pub Changes : {More : Type 0} → (ThreadUsage → More → Outcome) → More → RefT ThreadUsage → ℤ → RefT ThreadUsage → Type 0
 Changes outcome more before code after = (code ≡ outcome (now before) more .code) × (now after ≡ outcome (now before) more .usage)
 
-abbrev pub enables : ThreadUsage → Unit {0} → Outcome
-enables u more = enableOutcome u
+abbrev pub enabling : ThreadUsage → Unit {0} → Outcome
+enabling u more = enableOutcome u
 
-abbrev pub disables : ThreadUsage → Unit {0} → Outcome
-disables u more = disableOutcome u
+abbrev pub disabling : ThreadUsage → Unit {0} → Outcome
+disabling u more = disableOutcome u
 
-abbrev pub accumulates : ThreadUsage → ℕ → Outcome
-accumulates u cycles = accumulateOutcome u cycles
+abbrev pub accumulating : ThreadUsage → ℕ → Outcome
+accumulating u cycles = accumulateOutcome u cycles
 
 -- the answer is the record's flag, and the record is only looked at
 abbrev pub Looks : RefT ThreadUsage → Bool → Type 0
@@ -41,32 +40,32 @@ abbrev pub One : {Args Answer : Type 0} → (Args → Answer → Type 0) → Typ
 One {Args} {Answer} Allows = OneOutcome {Lives = Unit {0}} {Exit = Unit {0}} (λ lives args answer exit. Allows args answer)
 
 pub record LentOutcomes : Type 0 where
-  pub enable : OneOutcomeLent now (Changes enables)
-  pub disable : OneOutcomeLent now (Changes disables)
-  pub accumulate : OneOutcomeLent now (Changes accumulates)
+  pub enable : OneOutcomeLent now (Changes enabling)
+  pub disable : OneOutcomeLent now (Changes disabling)
+  pub accumulate : OneOutcomeLent now (Changes accumulating)
   pub is-tracked : One Looks
-  pub enable-leaves : RefusalLeaves enables
-  pub disable-leaves : RefusalLeaves disables
-  pub accumulate-leaves : RefusalLeaves accumulates
+  pub enable-leaves : RefusalLeaves enabling
+  pub disable-leaves : RefusalLeaves disabling
+  pub accumulate-leaves : RefusalLeaves accumulating
 
 -- a reader of the bytes that it is lent; they are only read
-abbrev pub Fresh : RefT (List ℕ) → TraceReader → Type 0
-Fresh trace r = (r .trace ≡ trace) × (r .at ≡ 0)
+abbrev pub FreshReader : RefT (List ℕ) → TraceReader → Type 0
+FreshReader trace r = (r .trace ≡ trace) × (r .at ≡ 0)
 
-abbrev pub Moved : TraceReader → TraceReader → Type 0
-Moved reader r = (r .trace ≡ reader .trace) × (r .at ≡ placeAfter (now (reader .trace)) (reader .at))
+abbrev pub MovedReader : TraceReader → TraceReader → Type 0
+MovedReader reader r = (r .trace ≡ reader .trace) × (r .at ≡ placeAfter (now (reader .trace)) (reader .at))
 
 -- an answer from the bytes held and the place
-abbrev pub Answers : {Answer : Type 0} → (List ℕ → ℕ → Answer) → TraceReader → Answer → Type 0
-Answers answer reader r = r ≡ answer (now (reader .trace)) (reader .at)
+abbrev pub FromHeld : {Answer : Type 0} → (List ℕ → ℕ → Answer) → TraceReader → Answer → Type 0
+FromHeld answer reader r = r ≡ answer (now (reader .trace)) (reader .at)
 
 abbrev pub First : RefT (List ℕ) → Item → Type 0
 First trace r = r ≡ itemAt (now trace) 0
 
 pub record ReaderOutcomes : Type 0 where
-  pub new : One Fresh
-  pub moved : One Moved
-  pub next : One (Answers itemAt)
-  pub records-left : One (Answers recordsLeft)
-  pub bytes-left : One (Answers bytesLeft)
+  pub new : One FreshReader
+  pub moved : One MovedReader
+  pub next : One (FromHeld itemAt)
+  pub records-left : One (FromHeld recordsLeft)
+  pub bytes-left : One (FromHeld bytesLeft)
   pub first-item : One First

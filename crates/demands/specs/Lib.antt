@@ -1,6 +1,8 @@
 pub mod Exact
 pub mod Leaves
-pub mod Refusals
+pub mod Entries
+pub mod Readers
+pub mod Writers
 pub mod Numbers
 pub mod UpstreamTimer
 pub mod UpstreamThread
@@ -13,3 +15,4 @@ pub mod Demand3
 pub mod Shown
 pub mod ShutOut
 pub mod Replayed
+pub mod RowNumbers

@@ -1,9 +1,8 @@
--- 01's "Numbers to check", as one table.
+-- Evidence: 01's "Numbers to check", as one table.
 use Prim.Native.Nat.{ℕ}
 use mathlib.Core.Path.{_≡_}
 use mathlib.Core.Bool.{Bool, true, false}
 use Rattle.error.specs.declared.Refusal.the-variants.{Overflow}
-use Rattle.systick.specs.Leaves.{elapsedCycles, ticksToCycles, maxTicks, elapsedDecide, announceDecide}
 use Rattle.systick.specs.declared.ElapsedCycles.the-variants as E
 use Rattle.systick.specs.declared.TicksToCycles.the-variants as C
 use Rattle.systick.specs.declared.MaxTicks.the-variants as M
@@ -11,10 +10,12 @@ use Rattle.systick.specs.declared.ElapsedDecide.{ElapsedDecide}
 use Rattle.systick.specs.declared.ElapsedDecide.the-variants as D
 use Rattle.systick.specs.declared.AnnounceDecide.{AnnounceDecide}
 use Rattle.systick.specs.declared.AnnounceDecide.the-variants as A
-use Rattle.usage.specs.Leaves as usage
-use Rattle.ledger.specs.Sums.{measured}
+use Rattle.systick.specs.Leaves.{elapsedCycles, ticksToCycles, maxTicks, elapsedDecide, announceDecide}
 use Rattle.usage.specs.declared.Changed.{Changed}
 use Rattle.usage.specs.declared.Changed.the-variants as R
+use Rattle.usage.specs.Formulas.{elapsedStamps}
+use Rattle.usage.specs.Leaves.{accumulated}
+use Rattle.ledger.specs.Sums.{measured}
 
 -- a decision's wrap, new overflow and elapsed
 abbrev decided : Bool → ℕ → ℕ → ElapsedDecide
@@ -26,7 +27,7 @@ announcing count = announceDecide (record { 0 = count }) (record { 0 = 0 }) 0 1
 
 -- a full total, and so many cycles more
 abbrev fullPlus : ℕ → Changed
-fullPlus cycles = usage.accumulated (record { «track_usage» = true; «total_cycles» = record { 0 = 18446744073709551615 }; «num_windows» = 1 }) cycles
+fullPlus cycles = accumulated (record { «track_usage» = true; «total_cycles» = record { 0 = 18446744073709551615 }; «num_windows» = 1 }) cycles
 
 pub record Numbers : Type 0 where
   pub case1 : elapsedCycles 7 3 10 ≡ E.Accepted 4
@@ -38,7 +39,7 @@ pub record Numbers : Type 0 where
   pub case7 : (maxTicks 12000 ≡ M.Accepted (record { 0 = 1397 })) × (maxTicks 16777215 ≡ M.Accepted (record { 0 = 0 })) × (maxTicks 16777216 ≡ M.Accepted (record { 0 = 0 }))
   pub case8 : (ticksToCycles (record { 0 = 4294967297 }) 4294967295 ≡ C.Accepted (record { 0 = 18446744073709551615 })) × (ticksToCycles (record { 0 = 4294967298 }) 4294967295 ≡ C.Refused Overflow)
   pub case9 : (announcing 4294967295 ≡ A.Accepted (record { dticks = record { 0 = 4294967295 }; «new_cycle_count» = record { 0 = 4294967295 }; «new_announced_cycles» = record { 0 = 4294967295 } })) × (announcing 4294967296 ≡ A.Refused Overflow)
-  pub case10 : usage.elapsedCycles 1 4294967295 ≡ 2
+  pub case10 : elapsedStamps 1 4294967295 ≡ 2
   -- the stamps of true times
   pub case11 : (measured 1 4294967296 ≡ 0) × (measured 2 4294967296 ≡ 4294967295)
   pub case12 : (fullPlus 0 ≡ R.Accepted (record { «track_usage» = true; «total_cycles» = record { 0 = 18446744073709551615 }; «num_windows» = 1 })) × (fullPlus 1 ≡ R.Refused Overflow)

@@ -1,16 +1,18 @@
--- The records that a reader hands out are the trace's, and the run that the demands speak of is the one that a trace's text tells.
-use Prim.Native.Nat.{ℕ, _+_, _/_, _%_, _<_}
+-- Evidence: the records that a reader hands out are the trace's, and the run that the demands speak of is the one that a trace's text tells.
+use Prim.Native.Nat.{ℕ, zero, suc, _+_, _/_, _%_, _<_}
 use mathlib.Core.Path.{_≡_}
-use mathlib.Core.List.{List, _∷_}
+use mathlib.Core.List.{List, [], _∷_}
 use lib.ListN.{length}
 use Rattle.clock.specs.Timer.{GoodSetup}
 use Rattle.trace.specs.declared.Record.the-variants as K
 use Rattle.trace.specs.declared.Decoded.{Decoded}
 use Rattle.trace.specs.declared.Decoded.the-variants as D
-use Rattle.trace.specs.Handing.{handedFrom}
+use Rattle.trace.specs.declared.reader.Item.{Item}
+use Rattle.trace.specs.declared.reader.Item.the-variants as I
+use Rattle.trace.specs.Handing.{itemAt, placeAfter}
 use Rattle.machine.specs.Step.{freshMachine, stepOf}
 use Rattle.transcript.specs.Replay.{machineAfter, wholeRecords, lastText, lastOf}
-use Rattle.demands.specs.Trace.{Watched, watchAll, setUp, FairTrace}
+use Rattle.demands.specs.Trace.{Watched, watchAll, atSetup, FairTrace}
 
 -- the onlooker changes nothing: the machine is the one that the records leave
 abbrev pub SameRun : Type 0
@@ -22,9 +24,18 @@ EndsTrue =
     (slots period tick : ℕ) → 0 < slots → GoodSetup period tick →
     (trace : List ℕ) (ds : List Decoded) →
     wholeRecords trace ≡ D.Accepted (K.Setup (record { period = period; tick = tick })) ∷ ds →
-    FairTrace stepOf period ds (setUp stepOf slots period tick) →
-    let w = watchAll stepOf ds (setUp stepOf slots period tick) in
+    FairTrace stepOf period ds (atSetup stepOf slots period tick) →
+    let w = watchAll stepOf ds (atSetup stepOf slots period tick) in
     lastOf (length trace % 16) (machineAfter (freshMachine slots) (wholeRecords trace)) ≡ lastText (length trace % 16) (w .ran) (w .atC)
+
+-- the first n items from a place on, up to the end
+abbrev pub handedBy : Item → List Decoded → List Decoded
+handedBy (I.Record d) rest = d ∷ rest
+handedBy I.End rest = []
+
+unfoldable pub handedFrom : ℕ → List ℕ → ℕ → List Decoded
+handedFrom zero s at = []
+handedFrom (suc n) s at = handedBy (itemAt s at) (handedFrom n s (placeAfter s at))
 
 -- asked over and over, a reader hands out just the records of the trace, and then the end
 abbrev pub HandsOut : Type 0

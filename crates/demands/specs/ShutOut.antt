@@ -1,4 +1,4 @@
--- Wrong machines, each shut out by a demand: those of 01's "What the contracts must shut out" and "Slips we have seen", and more.
+-- Evidence: wrong machines, each shut out by a demand. Those of 01's "What the contracts must shut out" and "Slips we have seen", and more.
 use Prim.Native.Nat.{ℕ, _+_}
 use mathlib.Core.Bool.{Bool, true, false, cond, not, _&&_}
 use lib.ListN.{set}
@@ -6,20 +6,22 @@ use lib.Dec.{leb, eqb}
 use Rattle.counter.specs.declared.Counter.{Counter}
 use Rattle.counter.specs.Cycle.{cleared}
 use Rattle.clock.specs.declared.Gaps.{Gaps}
-use Rattle.clock.specs.Sample.{gaps, readings, decision, crowded}
-use Rattle.ledger.specs.Operate.{recordOf}
+use Rattle.clock.specs.Sample.{readings, decision, crowded}
+use Rattle.clock.specs.Entries.{gaps}
+use Rattle.ledger.specs.Records.{threadRecord}
 use Rattle.trace.specs.declared.Record.{Record}
 use Rattle.trace.specs.declared.Record.the-variants as K
 use Rattle.trace.specs.declared.Decoded.{Decoded}
 use Rattle.trace.specs.declared.Decoded.the-variants as D
-use Rattle.machine.specs.declared.Machine.{Machine}
-use Rattle.machine.specs.declared.Stepped.{Stepped}
 use Rattle.table.specs.declared.Reason.the-variants as Why
 use Rattle.table.specs.declared.Values.{Values}
 use Rattle.table.specs.declared.Outcome.{Outcome}
 use Rattle.table.specs.declared.Outcome.the-variants as Told
+use Rattle.table.specs.Table.{afterTouch}
 use Rattle.table.specs.Says.{values}
-use Rattle.machine.specs.Step.{afterTouch, stepOf}
+use Rattle.machine.specs.declared.Machine.{Machine}
+use Rattle.machine.specs.declared.Stepped.{Stepped}
+use Rattle.machine.specs.Step.{stepOf}
 use Rattle.demands.specs.Demand1.{Demand1}
 use Rattle.demands.specs.Demand2.{Demand2}
 use Rattle.demands.specs.Demand3.{Demand3}
@@ -37,29 +39,29 @@ kind (K.Disable i g) = 7
 kind (K.Report i) = 8
 kind (K.Setup s) = 9
 
-abbrev gapsOf : Record → Gaps
-gapsOf (K.Run p) = gaps p 0 0
-gapsOf (K.Sample g) = g
-gapsOf K.Announce = gaps 0 0 0
-gapsOf (K.Start i g) = g
-gapsOf (K.Switch i g) = g
-gapsOf (K.Stop g) = g
-gapsOf (K.Enable i g) = g
-gapsOf (K.Disable i g) = g
-gapsOf (K.Report i) = gaps 0 0 0
-gapsOf (K.Setup s) = gaps 0 0 0
+abbrev gapsIn : Record → Gaps
+gapsIn (K.Run p) = gaps p 0 0
+gapsIn (K.Sample g) = g
+gapsIn K.Announce = gaps 0 0 0
+gapsIn (K.Start i g) = g
+gapsIn (K.Switch i g) = g
+gapsIn (K.Stop g) = g
+gapsIn (K.Enable i g) = g
+gapsIn (K.Disable i g) = g
+gapsIn (K.Report i) = gaps 0 0 0
+gapsIn (K.Setup s) = gaps 0 0 0
 
 -- machines that differ from ours by what they leave, given the machine before and ours after, or by what they answer
 abbrev leaving : (Machine → Record → Machine → Machine) → Machine → Decoded → Stepped
 leaving wrong m (D.Accepted r) = record { outcome = stepOf m (D.Accepted r) .outcome; machine = wrong m r (stepOf m (D.Accepted r) .machine) }
 leaving wrong m (D.Refused why) = stepOf m (D.Refused why)
 
-abbrev told : (Values → Values) → Outcome → Outcome
-told wrong (Told.Accepted v) = Told.Accepted (wrong v)
-told wrong (Told.Refused why) = Told.Refused why
+abbrev telling : (Values → Values) → Outcome → Outcome
+telling wrong (Told.Accepted v) = Told.Accepted (wrong v)
+telling wrong (Told.Refused why) = Told.Refused why
 
 abbrev answering : (Record → Values → Values) → Machine → Decoded → Stepped
-answering wrong m (D.Accepted r) = record { outcome = told (wrong r) (stepOf m (D.Accepted r) .outcome); machine = stepOf m (D.Accepted r) .machine }
+answering wrong m (D.Accepted r) = record { outcome = telling (wrong r) (stepOf m (D.Accepted r) .outcome); machine = stepOf m (D.Accepted r) .machine }
 answering wrong m (D.Refused why) = stepOf m (D.Refused why)
 
 -- or by not announcing where a test holds
@@ -114,7 +116,7 @@ abbrev withThread : Machine → ℕ → ℕ → ℕ → Machine
 withThread m i total windows = record {
   ready = m .ready;
   timer = m .timer;
-  ledger = record { books = m .ledger .books; threads = set (m .ledger .threads) i (record { «track_usage» = recordOf (m .ledger) i .«track_usage»; «total_cycles» = record { 0 = total }; «num_windows» = windows }) };
+  ledger = record { books = m .ledger .books; threads = set (m .ledger .threads) i (record { «track_usage» = threadRecord (m .ledger) i .«track_usage»; «total_cycles» = record { 0 = total }; «num_windows» = windows }) };
 }
 
 -- 01's "What the contracts must shut out": a refuser that never accepts
@@ -145,7 +147,7 @@ announcesOnce = notAnnouncing (λ m. not (eqb (m .timer .clock .announced .0) 0)
 
 -- made-up cycle totals: of a thread, of the machine, and as answered
 abbrev madeUp : Machine → Decoded → Stepped
-madeUp = leaving (λ m r n. cond (eqb (kind r) 5) (withThread n 0 (recordOf (n .ledger) 0 .«total_cycles» .0 + 1) (recordOf (n .ledger) 0 .«num_windows»)) n)
+madeUp = leaving (λ m r n. cond (eqb (kind r) 5) (withThread n 0 (threadRecord (n .ledger) 0 .«total_cycles» .0 + 1) (threadRecord (n .ledger) 0 .«num_windows»)) n)
 
 abbrev sumsNothing : Machine → Decoded → Stepped
 sumsNothing = leaving (λ m r n. withBooks n (n .ledger .books .stamp) (m .ledger .books .total .0))
@@ -155,7 +157,7 @@ answersNothing = answering (λ r v. cond (eqb (kind r) 5) (values 0 0) v)
 
 -- 01's "Slips we have seen": D left out, so that the flag stands for a wrap that is counted
 abbrev noD : Machine → Decoded → Stepped
-noD = leaving (λ m r n. cond (eqb (kind r) 1) (withCounter n (readings (m .timer) (gapsOf r) .after)) n)
+noD = leaving (λ m r n. cond (eqb (kind r) 1) (withCounter n (readings (m .timer) (gapsIn r) .after)) n)
 
 -- period L + 1
 abbrev longer : Machine → Decoded → Stepped
@@ -166,7 +168,7 @@ abbrev atMost : Machine → Decoded → Stepped
 atMost =
     leaving
     (λ m r n.
-    cond (eqb (kind r) 1 && not (decision (m .timer) (gapsOf r) .«wrap_detected») && leb (m .timer .counter .value) (readings (m .timer) (gapsOf r) .value))
+    cond (eqb (kind r) 1 && not (decision (m .timer) (gapsIn r) .«wrap_detected») && leb (m .timer .counter .value) (readings (m .timer) (gapsIn r) .value))
     (further n (n .timer .counter .period))
     n)
 
@@ -176,7 +178,7 @@ flagGone = leaving (λ m r n. cond (crowded (m .timer)) (withCounter n (cleared 
 
 -- two stamps in one switch: the second at D
 abbrev twoStamps : Machine → Decoded → Stepped
-twoStamps = leaving (λ m r n. cond (eqb (kind r) 4) (withBooks n (n .ledger .books .stamp + gapsOf r .r) (n .ledger .books .total .0)) n)
+twoStamps = leaving (λ m r n. cond (eqb (kind r) 4) (withBooks n (n .ledger .books .stamp + gapsIn r .r) (n .ledger .books .total .0)) n)
 
 -- and more: a setup forgotten at a sum that won't fit
 abbrev refusedSum : Outcome → Bool
@@ -194,7 +196,14 @@ abbrev averagesTotal : Machine → Decoded → Stepped
 averagesTotal = answering (λ r v. cond (eqb (kind r) 8) (values (v .x) (v .x)) v)
 
 abbrev noWindows : Machine → Decoded → Stepped
-noWindows = leaving (λ m r n. cond (eqb (kind r) 6) (withThread n 0 (recordOf (n .ledger) 0 .«total_cycles» .0) (recordOf (m .ledger) 0 .«num_windows»)) n)
+noWindows = leaving (λ m r n. cond (eqb (kind r) 6) (withThread n 0 (threadRecord (n .ledger) 0 .«total_cycles» .0) (threadRecord (m .ledger) 0 .«num_windows»)) n)
+
+-- windows that rise at start, and an untracked thread charged for its stretch
+abbrev windowsAtStart : Machine → Decoded → Stepped
+windowsAtStart = leaving (λ m r n. cond (eqb (kind r) 3) (withThread n 0 (threadRecord (n .ledger) 0 .«total_cycles» .0) (threadRecord (n .ledger) 0 .«num_windows» + 1)) n)
+
+abbrev chargesUntracked : Machine → Decoded → Stepped
+chargesUntracked = leaving (λ m r n. cond (eqb (kind r) 5) (withThread n 0 (n .ledger .books .total .0) (threadRecord (n .ledger) 0 .«num_windows»)) n)
 
 -- ticks told again after every sample, and one that from setup on can't sample
 abbrev tellsAgain : Machine → Decoded → Stepped
@@ -222,5 +231,7 @@ pub record ShutOut : Type 0 where
   pub no-elapsed-falls : Demand3 noElapsed → ⊥
   pub averages-total-falls : Demand2 averagesTotal → ⊥
   pub no-windows-falls : Demand2 noWindows → ⊥
+  pub windows-at-start-falls : Demand2 windowsAtStart → ⊥
+  pub charges-untracked-falls : Demand3 chargesUntracked → ⊥
   pub tells-again-falls : Demand3 tellsAgain → ⊥
   pub never-samples-falls : Demand2 neverSamples → ⊥

@@ -1,27 +1,26 @@
--- A trace's run from setup: a machine by its step, and beside it what an onlooker keeps, who has the records, which were
--- accepted with what answer, and 01's counter, and who never looks at what the machine keeps.
+-- Believed: a trace's run from setup. A machine by its step, and beside it an onlooker, who has the records, their answers and 01's counter, and never looks at what the machine keeps.
 use Prim.Native.Nat.{ℕ, _+_, _<_, _≤_}
 use mathlib.Core.Path.{_≡_}
 use mathlib.Core.Bool.{cond}
 use mathlib.Core.List.{List, [], _∷_}
-use Rattle.counter.specs.Cycle.{fresh, wraps}
+use Rattle.counter.specs.Cycle.{freshCounter, wraps}
 use Rattle.clock.specs.declared.Gaps.{Gaps}
-use Rattle.clock.specs.Sample.{wholeOf}
+use Rattle.clock.specs.Sample.{cyclesOf}
 use Rattle.books.specs.declared.Operation.{Operation}
 use Rattle.books.specs.declared.Operation.the-variants as O
-use Rattle.ledger.specs.Threads.{Threads, noneRan, begins, operated, answeredAfter}
+use Rattle.ledger.specs.Threads.{Threads, noneRan, begins, operated}
 use Rattle.trace.specs.declared.Record.{Record}
 use Rattle.trace.specs.declared.Record.the-variants as K
 use Rattle.trace.specs.declared.Decoded.{Decoded}
 use Rattle.trace.specs.declared.Decoded.the-variants as D
 use Rattle.table.specs.declared.Outcome.{Outcome}
 use Rattle.table.specs.declared.Outcome.the-variants as Told
+use Rattle.table.specs.Table.{afterTouch}
 use Rattle.machine.specs.declared.Machine.{Machine}
 use Rattle.machine.specs.declared.Stepped.{Stepped}
-use Rattle.machine.specs.Step.{afterTouch, freshMachine}
+use Rattle.machine.specs.Step.{freshMachine}
 
--- what a record lets happen: cycles run, so many ticks announced, a sample, or a sample with an operation that answered so
--- many cycles
+-- what a record lets happen: cycles run, so many ticks announced, a sample, or a sample with an operation that answered so many cycles
 pub data Does : Type 0 where
   nothing : Does
   runs : ℕ → Does
@@ -68,6 +67,10 @@ pub record Watched : Type 0 where
   pub before : ℕ
   pub since : ℕ
 
+-- nothing has been seen of a machine yet
+abbrev pub watching : Machine → Watched
+watching m = record { machine = m; ran = 0; atC = 0; ticks = 0; threads = noneRan; before = 0; since = 0 }
+
 -- the cycles run by a sample's C
 abbrev pub timeC : ℕ → Gaps → ℕ
 timeC ran g = ran + (g .p + g .q)
@@ -76,37 +79,29 @@ unfoldable pub seen : Does → Machine → Watched → Watched
 seen nothing m w = record { machine = m; ran = w .ran; atC = w .atC; ticks = w .ticks; threads = w .threads; before = w .before; since = w .since }
 seen (runs n) m w = record { machine = m; ran = w .ran + n; atC = w .atC; ticks = w .ticks; threads = w .threads; before = w .before; since = w .since }
 seen (tell n) m w = record { machine = m; ran = w .ran; atC = w .atC; ticks = w .ticks + n; threads = w .threads; before = w .before; since = w .since }
-seen (samples g) m w = record { machine = m; ran = w .ran + wholeOf g; atC = timeC (w .ran) g; ticks = w .ticks; threads = w .threads; before = w .before; since = w .since }
+seen (samples g) m w = record { machine = m; ran = w .ran + cyclesOf g; atC = timeC (w .ran) g; ticks = w .ticks; threads = w .threads; before = w .before; since = w .since }
 seen (operates op g x) m w = record {
   machine = m;
-  ran = w .ran + wholeOf g;
+  ran = w .ran + cyclesOf g;
   atC = timeC (w .ran) g;
   ticks = w .ticks;
   threads = operated (w .threads) op (timeC (w .ran) g);
   before = cond (begins (w .threads) op) (w .before + w .since) (w .before);
-  since = answeredAfter (w .threads) op (w .since) x;
+  since = cond (begins (w .threads) op) x (w .since + x);
 }
 
 -- demand 3's premises, of 01's counter from setup: its real wraps in so many cycles
 abbrev pub wrapsBy : ℕ → ℕ → ℕ
-wrapsBy period cycles = wraps cycles (fresh period)
+wrapsBy period cycles = wraps cycles (freshCounter period)
 
--- A sample takes less than a period;
-abbrev pub Quick : ℕ → Gaps → Type 0
-Quick period g = g .p + g .q < period
-
--- at most one wrap since the last C;
-abbrev pub OneWrap : ℕ → ℕ → ℕ → Gaps → Type 0
-OneWrap period ran atC g = wrapsBy period (timeC ran g) ≤ wrapsBy period atC + 1
-
--- and where there was one, none from C to D.
-abbrev pub NoneToD : ℕ → ℕ → ℕ → Gaps → Type 0
-NoneToD period ran atC g = wrapsBy period atC < wrapsBy period (timeC ran g) → wrapsBy period (ran + wholeOf g) ≡ wrapsBy period (timeC ran g)
-
+-- where a sample is fair, so many cycles after setup and after the last C
 pub record FairSample (period ran atC : ℕ) (g : Gaps) : Type 0 where
-  pub quick : Quick period g
-  pub one-wrap : OneWrap period ran atC g
-  pub none-to-D : NoneToD period ran atC g
+  -- it takes less than a period;
+  pub quick : g .p + g .q < period
+  -- at most one wrap came since the last C;
+  pub one-wrap : wrapsBy period (timeC ran g) ≤ wrapsBy period atC + 1
+  -- and where one came, none comes from C to D
+  pub none-to-D : wrapsBy period atC < wrapsBy period (timeC ran g) → wrapsBy period (ran + cyclesOf g) ≡ wrapsBy period (timeC ran g)
 
 abbrev pub Fair : ℕ → ℕ → ℕ → Does → Type 0
 Fair period ran atC nothing = Unit {0}
@@ -124,16 +119,8 @@ module _ (step : Machine → Decoded → Stepped) where
   watchAll (d ∷ ds) w = watchAll ds (watch d w)
 
   -- a fresh machine, set up
-  abbrev pub setUp : ℕ → ℕ → ℕ → Watched
-  setUp slots period tick = record {
-    machine = step (freshMachine slots) (D.Accepted (K.Setup (record { period = period; tick = tick }))) .machine;
-    ran = 0;
-    atC = 0;
-    ticks = 0;
-    threads = noneRan;
-    before = 0;
-    since = 0;
-  }
+  abbrev pub atSetup : ℕ → ℕ → ℕ → Watched
+  atSetup slots period tick = watching (step (freshMachine slots) (D.Accepted (K.Setup (record { period = period; tick = tick }))) .machine)
 
   -- each sample is fair that was not refused before the touch
   unfoldable pub FairTrace : ℕ → List Decoded → Watched → Type 0

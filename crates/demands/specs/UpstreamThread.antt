@@ -1,19 +1,19 @@
--- Upstream's clauses and lemmas of usage.rs, each over our definition.
+-- Evidence: upstream's clauses and lemmas of usage.rs, each over our definition. They follow from 01's formulas.
 use Prim.Native.Nat.{ℕ, _+_, _/_, _%_, _^_, _≤_, _<_}
 use mathlib.Core.Path.{_≡_}
 use mathlib.Core.Bool.{Bool, true, false, cond}
 use mathlib.Core.Logic.{_⊎_, _↔_}
 use Rattle.error.specs.Numbers.{ok, minus, max32}
 use Rattle.units.specs.declared.Cycles.{Cycles}
-use Rattle.usage.specs.Record.{newIdle}
-use Rattle.usage.specs.Leaves.{enabled, disabled, accumulated, averageCycles, elapsedCycles, sysEnableDecide, sysDisableDecide, startDecide, stopDecide}
-use Rattle.usage.specs.Says.{outcomeOf, applies}
 use Rattle.usage.specs.declared.ThreadUsage.{ThreadUsage}
 use Rattle.usage.specs.declared.Outcome.{Outcome}
 use Rattle.usage.specs.declared.SysTrackDecision.{SysTrackDecision}
 use Rattle.usage.specs.declared.SysTrackDecision.the-variants.{NoOp, Apply}
 use Rattle.usage.specs.declared.StartDecision.the-variants.{RecordStart, RecordOnly}
 use Rattle.usage.specs.declared.StopDecision.the-variants.{Accumulate, Skip}
+use Rattle.usage.specs.Formulas.{newIdle, averageCycles, elapsedStamps}
+use Rattle.usage.specs.Leaves.{enabled, disabled, accumulated, sysEnableDecide, sysDisableDecide, startDecide, stopDecide}
+use Rattle.usage.specs.Says.{outcomeOf, applies}
 
 -- the code and the record after each method of a record
 abbrev pub enable : ThreadUsage → Outcome
@@ -60,7 +60,7 @@ pub record ThreadClauses : Type 0 where
   pub stop-decide : (usage0 : ℕ) → ((usage0 ≡ 0 → ⊥) → stopDecide usage0 ≡ Accumulate) × (usage0 ≡ 0 → stopDecide usage0 ≡ Skip)
   pub average-cycles : (total : Cycles) (windows : ℕ) → (windows ≡ 0 → averageCycles total windows .0 ≡ 0) × ((windows ≡ 0 → ⊥) → averageCycles total windows .0 ≡ total .0 / windows)
   -- now.wrapping_sub(usage0), by what it means: added to usage0 it gives now, modulo 2^32
-  pub elapsed-cycles : (now usage0 : ℕ) → now < 2 ^ 32 → usage0 < 2 ^ 32 → (elapsedCycles now usage0 < 2 ^ 32) × ((usage0 + elapsedCycles now usage0) % 2 ^ 32 ≡ now)
+  pub elapsed-cycles : (now usage0 : ℕ) → now < 2 ^ 32 → usage0 < 2 ^ 32 → (elapsedStamps now usage0 < 2 ^ 32) × ((usage0 + elapsedStamps now usage0) % 2 ^ 32 ≡ now)
 
 -- whether the system tracks after a decision, toward `wanted`, is carried out
 abbrev pub carriedOut : SysTrackDecision → Bool → Bool → Bool

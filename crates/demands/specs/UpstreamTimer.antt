@@ -1,4 +1,4 @@
--- Upstream's clauses and lemmas of systick.rs, each over our definition, under upstream's own requires.
+-- Evidence: upstream's clauses and lemmas of systick.rs, each over our definition, under upstream's own requires. They follow from `LeavesExact` and `Readers`.
 use Prim.Native.Nat.{ℕ, _+_, _-_, _*_, _/_, _≤_, _<_}
 use mathlib.Core.Path.{_≡_}
 use mathlib.Core.Bool.{Bool, true, false, _||_}
@@ -7,14 +7,14 @@ use Rattle.error.specs.Numbers.{ok, minus, max32, max64}
 use Rattle.error.specs.Said.{Said}
 use Rattle.units.specs.declared.Cycles.{Cycles}
 use Rattle.units.specs.declared.Ticks.{Ticks}
-use Rattle.systick.specs.Leaves.{elapsedCycles, cyclesToTicks, ticksToCycles, maxTicks, maxLoad, elapsedDecide, announceDecide}
-use Rattle.systick.specs.Says.{elapsedCyclesSays, cyclesToTicksSays, ticksToCyclesSays, maxTicksSays, elapsedDecideSays, announceDecideSays}
 use Rattle.systick.specs.declared.ElapsedDecideResult.{ElapsedDecideResult}
 use Rattle.systick.specs.declared.AnnounceDecideResult.{AnnounceDecideResult}
 use Rattle.systick.specs.declared.ElapsedCycles.the-variants as E
 use Rattle.systick.specs.declared.CyclesToTicks.the-variants as T
 use Rattle.systick.specs.declared.TicksToCycles.the-variants as C
 use Rattle.systick.specs.declared.MaxTicks.the-variants as M
+use Rattle.systick.specs.Leaves.{elapsedCycles, cyclesToTicks, ticksToCycles, maxTicks, maxLoad, elapsedDecide, announceDecide}
+use Rattle.systick.specs.Says.{elapsedCyclesSays, cyclesToTicksSays, ticksToCyclesSays, maxTicksSays, elapsedDecideSays, announceDecideSays}
 
 -- what elapsed_cycles ensures
 pub record ElapsedCyclesEnsures (last current load : ℕ) (said : Said ℕ) : Type 0 where

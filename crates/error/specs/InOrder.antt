@@ -1,4 +1,4 @@
--- Tests in order: the first that holds refuses with its reason; where none holds, the answer stands.
+-- Believed: tests in order. The first that holds refuses with its reason; where none holds, the answer stands.
 use mathlib.Core.Bool.{Bool, true, false, cond}
 use mathlib.Core.List.{List, [], _∷_}
 use mathlib.Core.Path.{_≡_}

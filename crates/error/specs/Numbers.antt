@@ -1,4 +1,4 @@
--- 01's numbers, and the largest values of 32 and 64 bits.
+-- Believed: 01's numbers, and the largest values of 32 and 64 bits.
 use Prim.Native.Nat.{ℕ}
 use lib.IntN.{ℤ, pos, negℤ}
 use Rattle.error.specs.declared.Refusal.{Refusal}

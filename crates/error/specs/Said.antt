@@ -1,4 +1,4 @@
--- What an answer says: its number, and its value, zeros where it is refused.
+-- Believed: what an answer says. Its number, and its value, zeros where it is refused.
 use lib.IntN.{ℤ}
 use Rattle.error.specs.declared.Refusal.{Refusal}
 use Rattle.error.specs.Numbers.{ok, numberOf}

@@ -7,9 +7,13 @@ use native.Mathlib.Omega.{arith}
 use lib.Dec.{eqb}
 use borrow.Author.Tests.{eqb-true, eqb-false}
 use Rattle.error.specs.Numbers.{max64}
-use Rattle.books.specs.Stamp.{stampOf}
-use Rattle.ledger.specs.Sums.{Stretch, sumOf, firstOf, trueCycles, measured, multiple, edge, Short, AllShort, ChainShort, Within, StampsNear, TotalNear, ChainNear}
+use Rattle.books.specs.Running.{stampOf}
+use Rattle.ledger.specs.Sums.{Stretch, sumOf, firstOf, trueCycles, measured, edge, Short, AllShort, ChainShort, Within, StampsNear, TotalNear, ChainNear}
 use Rattle.ledger.proofs.Holds.{chainOf}
+
+-- the stamp of a multiple of 2^32 is one more than its low bits
+abbrev multiple : ℕ → Bool
+multiple time = eqb (time % 2 ^ 32) 0
 
 -- what a stamp is more than the low bits of its time
 unfoldable pub off : ℕ → ℕ

@@ -13,20 +13,19 @@ use Rattle.error.proofs.Tests.{clash}
 use Rattle.error.specs.declared.Refusal.{Refusal}
 use Rattle.error.proofs.Ordered.{by-outcome}
 use Rattle.usage.specs.declared.ThreadUsage.{ThreadUsage}
-use Rattle.usage.specs.Record.{newIdle}
-use Rattle.usage.specs.Leaves.{elapsedCycles}
+use Rattle.usage.specs.Formulas.{newIdle, elapsedStamps}
 use Rattle.books.specs.declared.Books.{Books}
 use Rattle.books.specs.declared.Entry.{Entry}
 use Rattle.books.specs.declared.Operation.{Operation}
 use Rattle.books.specs.declared.Operation.the-variants as O
-use Rattle.books.specs.Stamp.{stampOf}
-use Rattle.books.specs.Entries.{stopped, runs, openCycles, enterOf}
-use Rattle.books.specs.Enter.{unrecorded, past, busy, concerned}
+use Rattle.books.specs.Entries.{enterOf}
+use Rattle.books.specs.Running.{stopped, isRunning, openCycles, stampOf, unrecorded, past, busy, concerned}
 use Rattle.books.specs.Laws.{closes, flagAfter, stampAfter, runningAfter, EntryIs}
 use Rattle.books.proofs.Entering.{entry-is}
 use Rattle.ledger.specs.declared.Answer.the-variants as A
 use Rattle.ledger.specs.declared.Ledgered.{Ledgered}
-use Rattle.ledger.specs.Operate.{recordOf, refusedWith, operateTests, operateOf}
+use Rattle.ledger.specs.Operate.{refusedWith, operateTests, operateOf}
+use Rattle.ledger.specs.Records.{threadRecord}
 use Rattle.ledger.specs.Sums.{sumOf, measured}
 use Rattle.ledger.specs.Threads.{Open, none, since, isNone, isOf, closesNow, begins, openAfter, trackedAfter, shut}
 use Rattle.ledger.proofs.Run.{World, Event, begin, afterAnswer, step, after}
@@ -59,8 +58,8 @@ marked-none : (slots : ℕ) (b : Books) (o : Open) → Marked slots b o → stop
 marked-none slots b none m = eq-eqb _ _ m
 marked-none slots b (since i from) m = ne-eqb _ _ (λ z. stamped from (sym (m .0) ∙ z))
 
-marked-of : (slots : ℕ) (b : Books) (o : Open) → Marked slots b o → (i : ℕ) → runs b i ≡ isOf o i
-unfolding runs
+marked-of : (slots : ℕ) (b : Books) (o : Open) → Marked slots b o → (i : ℕ) → isRunning b i ≡ isOf o i
+unfolding isRunning
 marked-of slots b none m i = simp (eq-eqb _ _ m)
 marked-of slots b (since j from) m i = simp (ne-eqb (b .stamp) 0 (λ z. stamped from (sym (m .0) ∙ z)), m .1)
 
@@ -95,14 +94,14 @@ sum-after w time j o false = sym (add-zero _)
 cycles-are : (slots : ℕ) (b : Books) (o : Open) (time : ℕ) → Marked slots b o → isNone o ≡ false → openCycles b (stampOf time) ≡ added o time
 unfolding added
 cycles-are slots b none time m e = clash (cc)
-cycles-are slots b (since i from) time m e = ap (elapsedCycles (stampOf time)) (m .0)
+cycles-are slots b (since i from) time m e = ap (elapsedStamps (stampOf time)) (m .0)
 
 module _ (slots : ℕ) (w : World) (k : Agrees slots w) where
   abbrev b : Books
   b = w .ledger .books
 
   -- the ledger closes exactly where the onlooker says so
-  closing : (op : Operation) → busy b op ≡ false → closes b (recordOf (w .ledger) (concerned b op)) op ≡ closesNow (w .threads) op
+  closing : (op : Operation) → busy b op ≡ false → closes b (threadRecord (w .ledger) (concerned b op)) op ≡ closesNow (w .threads) op
   unfolding closes closesNow concerned busy
   closing (O.Start i) free = sym free ∙ ap not (marked-none slots b (w .threads .stretch) (k .mark))
   closing (O.Switch i) free = ap not (marked-none slots b (w .threads .stretch) (k .mark))
@@ -156,7 +155,7 @@ module _ (slots : ℕ) (w : World) (k : Agrees slots w) where
     other-flag (O.Disable i) m = simp m
 
   -- an accepted entry of an operation at a time
-  module _ (op : Operation) (time : ℕ) (e : Entry) (law : EntryIs b (recordOf (w .ledger) (concerned b op)) (stampOf time) op e) (free : busy b op ≡ false) where
+  module _ (op : Operation) (time : ℕ) (e : Entry) (law : EntryIs b (threadRecord (w .ledger) (concerned b op)) (stampOf time) op e) (free : busy b op ≡ false) where
     abbrev at : ℕ
     at = concerned b op
 
@@ -189,16 +188,16 @@ module _ (slots : ℕ) (w : World) (k : Agrees slots w) where
       here : at < length (w .ledger .threads)
       here = let size = k .size in omega arith
 
-      record-after : (j : ℕ) → getD (set (w .ledger .threads) at (e .usage)) j newIdle ≡ cond (eqb at j) (e .usage) (recordOf (w .ledger) j)
+      record-after : (j : ℕ) → getD (set (w .ledger .threads) at (e .usage)) j newIdle ≡ cond (eqb at j) (e .usage) (threadRecord (w .ledger) j)
       record-after j = stored (w .ledger .threads) at j (e .usage) here
 
       totals-after : (j : ℕ) → getD (set (w .ledger .threads) at (e .usage)) j newIdle .«total_cycles» .0 ≡ sumOf measured j (cond (closesNow (w .threads) op) (shut (w .threads) time (w .threads .stretch)) (w .threads .closed))
       totals-after j = ap (λ (u : ThreadUsage). u .«total_cycles» .0) (record-after j) ∙ (by-record (eqb at j) refl ∙ sym (sum-after w time j (w .threads .stretch) (closesNow (w .threads) op)))
         where
-          by-record : (mine : Bool) → eqb at j ≡ mine → cond mine (e .usage) (recordOf (w .ledger) j) .«total_cycles» .0 ≡ sumOf measured j (w .threads .closed) + cond (closesNow (w .threads) op) (cond (owner (w .threads .stretch) (w .threads .tracked) j) (added (w .threads .stretch) time) 0) 0
+          by-record : (mine : Bool) → eqb at j ≡ mine → cond mine (e .usage) (threadRecord (w .ledger) j) .«total_cycles» .0 ≡ sumOf measured j (w .threads .closed) + cond (closesNow (w .threads) op) (cond (owner (w .threads .stretch) (w .threads .tracked) j) (added (w .threads .stretch) time) 0) 0
           by-record true m =
               law .total ∙
-              (ap (λ (n : ℕ). n + cond (recordOf (w .ledger) at .«track_usage») (e .cycles) 0) (k .totals at) ∙
+              (ap (λ (n : ℕ). n + cond (threadRecord (w .ledger) at .«track_usage») (e .cycles) 0) (k .totals at) ∙
               (rw (k .flags at, cycles-of (closesNow (w .threads) op) refl, eqb-true at j m)
               (ap (λ (n : ℕ). sumOf measured j (w .threads .closed) + n) (rw (eqb-true at j m) at (credit j (closesNow (w .threads) op) refl true m)))))
           by-record false m = k .totals j ∙ (sym (add-zero _) ∙ ap (λ (n : ℕ). sumOf measured j (w .threads .closed) + n) (credit j (closesNow (w .threads) op) refl false m))
@@ -206,10 +205,10 @@ module _ (slots : ℕ) (w : World) (k : Agrees slots w) where
       flags-after : (j : ℕ) → getD (set (w .ledger .threads) at (e .usage)) j newIdle .«track_usage» ≡ trackedAfter (w .threads) op j
       flags-after j = ap (λ (u : ThreadUsage). u .«track_usage») (record-after j) ∙ by-record (eqb at j) refl
         where
-          told : flagAfter op (recordOf (w .ledger) at .«track_usage») ≡ flagAfter op (w .threads .tracked at)
+          told : flagAfter op (threadRecord (w .ledger) at .«track_usage») ≡ flagAfter op (w .threads .tracked at)
           told = ap (flagAfter op) (k .flags at)
 
-          by-record : (mine : Bool) → eqb at j ≡ mine → cond mine (e .usage) (recordOf (w .ledger) j) .«track_usage» ≡ trackedAfter (w .threads) op j
+          by-record : (mine : Bool) → eqb at j ≡ mine → cond mine (e .usage) (threadRecord (w .ledger) j) .«track_usage» ≡ trackedAfter (w .threads) op j
           by-record true m = law .flag ∙ (told ∙ flag-of j op m)
           by-record false m = k .flags j ∙ other-flag j op m
 
@@ -229,7 +228,7 @@ module _ (slots : ℕ) (w : World) (k : Agrees slots w) where
     altered-mark i s r a false c = same-mark (w .threads .stretch) (s ∙ simp c) r (k .mark)
 
   module _ (time : ℕ) (e : Entry) where
-    mark-after : (op : Operation) → EntryIs b (recordOf (w .ledger) (concerned b op)) (stampOf time) op e → past op slots ≡ false → Marked slots (e .books) (openAfter (w .threads) time op)
+    mark-after : (op : Operation) → EntryIs b (threadRecord (w .ledger) (concerned b op)) (stampOf time) op e → past op slots ≡ false → Marked slots (e .books) (openAfter (w .threads) time op)
     unfolding openAfter stampAfter runningAfter past concerned busy
     mark-after (O.Start i) law p = (law .stamp, law .running, leb-false _ _ p)
     mark-after (O.Switch i) law p = (law .stamp, law .running, leb-false _ _ p)
@@ -249,7 +248,7 @@ module _ (slots : ℕ) (w : World) (k : Agrees slots w) where
   begins-idle (O.Disable i) free e = clash (cc)
 
   -- the chain since the last start
-  chain-after : (op : Operation) (time : ℕ) (e : Entry) → EntryIs b (recordOf (w .ledger) (concerned b op)) (stampOf time) op e → busy b op ≡ false → (new c : Bool) → begins (w .threads) op ≡ new → closesNow (w .threads) op ≡ c → cond new (e .cycles) (w .answered + e .cycles) ≡ chainOf measured (cond new time (cond c time (w .threads .last))) (cond new [] (cond c (w .threads .last ∷ w .threads .times) (w .threads .times)))
+  chain-after : (op : Operation) (time : ℕ) (e : Entry) → EntryIs b (threadRecord (w .ledger) (concerned b op)) (stampOf time) op e → busy b op ≡ false → (new c : Bool) → begins (w .threads) op ≡ new → closesNow (w .threads) op ≡ c → cond new (e .cycles) (w .answered + e .cycles) ≡ chainOf measured (cond new time (cond c time (w .threads .last))) (cond new [] (cond c (w .threads .last ∷ w .threads .times) (w .threads .times)))
   unfolding chainOf added Follows
   chain-after op time e law free true c n q = cycles-of op time e law free false (begins-idle op free n)
   chain-after op time e law free false true n q = rw (k .chain, cycles-of op time e law free true q) (ap (λ (n : ℕ). chainOf measured (w .threads .last) (w .threads .times) + n) (from-last (w .threads .stretch) (not-none (w .threads .stretch) _ (on-concerned op free q)) (k .follows)))
@@ -286,7 +285,7 @@ step-keeps slots some ev w k =
     by-outcome (refusedWith (w .ledger)) _ P (operateTests (w .ledger) (ev .operation)) unchanged
     (λ tests.
     stored-by (w .ledger) (concerned (w .ledger .books) (ev .operation)) P
-    (enterOf (w .ledger .books) (recordOf (w .ledger) (concerned (w .ledger .books) (ev .operation))) (stampOf (ev .time)) (ev .operation))
+    (enterOf (w .ledger .books) (threadRecord (w .ledger) (concerned (w .ledger .books) (ev .operation))) (stampOf (ev .time)) (ev .operation))
     unchanged
     (λ e p. accepted e (entry-is _ _ _ _ e p) (rw (k .size) at (tests .0)) (rw (k .size) at (tests .1 .0)) (tests .1 .1 .0)))
   where
@@ -296,7 +295,7 @@ step-keeps slots some ev w k =
     unchanged : (why : Refusal) → P (refusedWith (w .ledger) why)
     unchanged why = record { size = k .size; mark = k .mark; flags = k .flags; totals = k .totals; machine = k .machine; chain = k .chain; follows = k .follows }
 
-    accepted : (e : Entry) → EntryIs (w .ledger .books) (recordOf (w .ledger) (concerned (w .ledger .books) (ev .operation))) (stampOf (ev .time)) (ev .operation) e → unrecorded (w .ledger .books) slots ≡ false → past (ev .operation) slots ≡ false → busy (w .ledger .books) (ev .operation) ≡ false → P (record { answer = A.Accepted (e .cycles); ledger = record { books = e .books; threads = set (w .ledger .threads) (concerned (w .ledger .books) (ev .operation)) (e .usage) } })
+    accepted : (e : Entry) → EntryIs (w .ledger .books) (threadRecord (w .ledger) (concerned (w .ledger .books) (ev .operation))) (stampOf (ev .time)) (ev .operation) e → unrecorded (w .ledger .books) slots ≡ false → past (ev .operation) slots ≡ false → busy (w .ledger .books) (ev .operation) ≡ false → P (record { answer = A.Accepted (e .cycles); ledger = record { books = e .books; threads = set (w .ledger .threads) (concerned (w .ledger .books) (ev .operation)) (e .usage) } })
     accepted e law r p free =
         let inside = within (w .ledger .books) (ev .operation) slots some r p in
         record {

@@ -12,11 +12,9 @@ use Rattle.usage.specs.declared.ThreadUsage.{ThreadUsage}
 use Rattle.books.specs.declared.Books.{Books}
 use Rattle.books.specs.declared.Operation.{Operation}
 use Rattle.books.specs.declared.Operation.the-variants as O
-use Rattle.books.specs.Stamp.{stampOf}
-use Rattle.books.specs.Entries.{stopped, runs, openCycles}
-use Rattle.books.specs.Enter.{concerned}
+use Rattle.books.specs.Running.{stopped, isRunning, openCycles, stampOf, concerned}
 use Rattle.books.specs.Laws.{closes, tooMany}
-use Rattle.ledger.specs.Operate.{usageOf}
+use Rattle.ledger.specs.Records.{concernedRecord}
 use Rattle.ledger.specs.Sums.{Stretch, sumOf, measured}
 use Rattle.ledger.specs.Threads.{Open, none, since}
 use Rattle.ledger.proofs.Run.{World, Event, begin, after}
@@ -37,7 +35,7 @@ part i (s ∷ rest) = by-owner _ (s .tracked && eqb (s .thread) i) (part i rest)
 
 -- only an open stretch is closed
 closes-open : (b : Books) (u : ThreadUsage) (op : Operation) → closes b u op ≡ true → stopped b ≡ false
-unfolding closes runs
+unfolding closes isRunning
 closes-open b u op = by-test (stopped b) refl op
   where
     nothing : (flag : Bool) → flag && false ≡ true → ⊥
@@ -64,7 +62,7 @@ module _ (slots : ℕ) (some : 0 < slots) (es : List Event) (time : ℕ) (fits :
   b = w .ledger .books
 
   abbrev u : ThreadUsage
-  u = usageOf (w .ledger) op
+  u = concernedRecord (w .ledger) op
 
   -- the open stretch, closed now, and all that was measured before it
   at-open : (o : Open) → Marked slots b o → stopped b ≡ false → Spent (w .threads .closed) time o → allOf measured (w .threads .closed) + openCycles b (stampOf time) ≤ max64

@@ -1,7 +1,7 @@
 -- What holds of every run of a ledger of any number of slots from a fresh one.
 use Prim.Native.Nat.{ℕ, _+_, _≤_, _<_}
 use mathlib.Core.Path.{_≡_}
-use mathlib.Core.Bool.{false}
+use mathlib.Core.Bool.{false, _&&_}
 use mathlib.Core.List.{List, [], _∷_}
 use lib.ListN.{length}
 use Rattle.error.specs.Numbers.{max64}
@@ -9,12 +9,13 @@ use Rattle.error.specs.declared.Refusal.the-variants.{Invalid}
 use Rattle.units.specs.declared.Cycles.{Cycles}
 use Rattle.books.specs.declared.Books.{Books}
 use Rattle.books.specs.declared.Operation.{Operation}
-use Rattle.books.specs.Stamp.{stampOf}
-use Rattle.books.specs.Laws.{sumAbove}
+use Rattle.books.specs.Running.{stampOf, openCycles}
+use Rattle.books.specs.Laws.{closes, tooMany}
 use Rattle.ledger.specs.declared.Ledger.{Ledger}
 use Rattle.ledger.specs.declared.Answer.the-variants as A
 use Rattle.ledger.specs.declared.Reported.the-variants as R
-use Rattle.ledger.specs.Operate.{recordOf, usageOf, operateOf, reportOf}
+use Rattle.ledger.specs.Operate.{operateOf, reportOf}
+use Rattle.ledger.specs.Records.{threadRecord, concernedRecord}
 use Rattle.ledger.specs.Sums.{Stretch, sumOf, measured, TotalNear, ChainNear}
 use Rattle.ledger.specs.Threads.{Open, none, since}
 use Rattle.ledger.proofs.Run.{World, Event, begin, after}
@@ -42,8 +43,8 @@ chainOf measure time (t ∷ rest) = chainOf measure t rest + measure t time
 pub record Agrees (slots : ℕ) (w : World) : Type 0 where
   pub size : length (w .ledger .threads) ≡ slots
   pub mark : Marked slots (w .ledger .books) (w .threads .stretch)
-  pub flags : (i : ℕ) → recordOf (w .ledger) i .«track_usage» ≡ w .threads .tracked i
-  pub totals : (i : ℕ) → recordOf (w .ledger) i .«total_cycles» .0 ≡ sumOf measured i (w .threads .closed)
+  pub flags : (i : ℕ) → threadRecord (w .ledger) i .«track_usage» ≡ w .threads .tracked i
+  pub totals : (i : ℕ) → threadRecord (w .ledger) i .«total_cycles» .0 ≡ sumOf measured i (w .threads .closed)
   pub machine : w .ledger .books .total .0 ≡ allOf measured (w .threads .closed)
   pub chain : w .answered ≡ chainOf measured (w .threads .last) (w .threads .times)
   pub follows : Follows (w .threads .stretch) (w .threads .last)
@@ -60,7 +61,7 @@ Timely from (e ∷ es) to = (from ≤ e .time) × Timely (e .time) es to
 
 -- where no time falls
 pub record Near (w : World) : Type 0 where
-  pub threads : (i : ℕ) → TotalNear i (recordOf (w .ledger) i .«total_cycles» .0) (w .threads .closed)
+  pub threads : (i : ℕ) → TotalNear i (threadRecord (w .ledger) i .«total_cycles» .0) (w .threads .closed)
   pub chain : ChainNear (w .answered) (w .threads .last) (w .threads .times)
 
 abbrev pub EveryRun : Type 0
@@ -74,4 +75,4 @@ abbrev pub SumsFit : Type 0
 SumsFit =
     (slots : ℕ) → 0 < slots → (es : List Event) (time : ℕ) → Timely 0 es time → time ≤ max64 → (op : Operation) →
     let l = after es (begin slots) .ledger in
-    sumAbove (l .books) (usageOf l op) (stampOf time) op ≡ false
+    closes (l .books) (concernedRecord l op) op && tooMany (l .books) (concernedRecord l op) (openCycles (l .books) (stampOf time)) ≡ false

@@ -5,18 +5,18 @@ use lib.ListN.{length, set, length-set}
 use lib.Seq.{getD-set-same, getD-set-other}
 use Rattle.error.specs.declared.Refusal.{Refusal}
 use Rattle.error.proofs.Ordered.{by-outcome}
-use Rattle.usage.specs.Record.{newIdle}
+use Rattle.usage.specs.Formulas.{newIdle}
 use Rattle.books.specs.declared.Entry.{Entry}
 use Rattle.books.specs.declared.Entered.{Entered}
 use Rattle.books.specs.declared.Entered.the-variants as E
-use Rattle.books.specs.Stamp.{stampOf}
+use Rattle.books.specs.Running.{stampOf, concerned}
 use Rattle.books.specs.Entries.{enterOf}
-use Rattle.books.specs.Enter.{concerned}
 use Rattle.books.proofs.Entering.{entry-is}
 use Rattle.ledger.specs.declared.Ledger.{Ledger}
 use Rattle.ledger.specs.declared.Answer.the-variants as A
 use Rattle.ledger.specs.declared.Ledgered.{Ledgered}
-use Rattle.ledger.specs.Operate.{recordOf, refusedWith, storedIn, operateTests, operateOf}
+use Rattle.ledger.specs.Operate.{refusedWith, storedIn, operateTests, operateOf}
+use Rattle.ledger.specs.Records.{threadRecord}
 use Rattle.ledger.specs.Laws.{AnswerIs, EveryOperation}
 use Rattle.ledger.proofs.Operating.{within}
 
@@ -31,7 +31,7 @@ unfolding operateOf
 every-operation l reading op some =
     by-outcome (refusedWith l) _ P (operateTests l op) (λ why. refl)
     (λ tests.
-    stored-by l k P (enterOf (l .books) (recordOf l k) (stampOf (reading .0)) op) (λ why. refl)
+    stored-by l k P (enterOf (l .books) (threadRecord l k) (stampOf (reading .0)) op) (λ why. refl)
     (λ e p.
     let inside = within (l .books) op (length (l .threads)) some (tests .0) (tests .1 .0) in
     record {

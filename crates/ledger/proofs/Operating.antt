@@ -14,14 +14,16 @@ use Rattle.books.specs.declared.Entered.{Entered}
 use Rattle.books.specs.declared.Entered.the-variants as E
 use Rattle.books.specs.declared.Operation.{Operation}
 use Rattle.books.specs.declared.Operation.the-variants as O
-use Rattle.books.specs.Enter.{noThread, unrecorded, past, busy, entryOf, concerned}
+use Rattle.books.specs.Enter.{entryOf}
+use Rattle.books.specs.Running.{noThread, unrecorded, past, busy, concerned}
 use Rattle.books.specs.Says.{enteredWhy}
 use Rattle.books.proofs.Outcomes.{entry-free}
 use Rattle.ledger.specs.declared.Ledger.{Ledger}
 use Rattle.ledger.specs.declared.Ledgered.{Ledgered}
 use Rattle.ledger.specs.declared.ThreadReport.{ThreadReport}
 use Rattle.ledger.specs.declared.Reported.the-variants as R
-use Rattle.ledger.specs.Operate.{recordOf, refusedWith, storedIn, operateOf, reportValue, reportOf}
+use Rattle.ledger.specs.Operate.{refusedWith, storedIn, operateOf, reportOf}
+use Rattle.ledger.specs.Records.{threadRecord, reportValue}
 
 -- the thread that goes is in the table where it has a record
 going-within : (b : Books) (slots i : ℕ) → unrecorded b slots ≡ false → i < slots → cond (eqb (b .stamp) 0) i (b .running) < slots
@@ -56,10 +58,10 @@ module _ (l : Ledger) (reading : Cycles) (op : Operation) {slots : ℕ} (n : len
       unfolding operateOf
       under-way e = simp (n, recorded, named, e)
 
-      module _ (free : busy (l .books) op ≡ false) {k : ℕ} {x : Entered} (ek : k ≡ concerned (l .books) op) (ex : x ≡ entryOf (l .books) (recordOf l k) reading op) where
+      module _ (free : busy (l .books) op ≡ false) {k : ℕ} {x : Entered} (ek : k ≡ concerned (l .books) op) (ex : x ≡ entryOf (l .books) (threadRecord l k) reading op) where
         pub storing : operateOf l reading op ≡ storedIn l k x
         unfolding operateOf
-        storing = simp (n, recorded, named, free, ex ∙ entry-free (l .books) (recordOf l k) reading op free, ek)
+        storing = simp (n, recorded, named, free, ex ∙ entry-free (l .books) (threadRecord l k) reading op free, ek)
 
         pub entry-refused : {why handed-on : Refusal} {answer : Ledgered} → x ≡ E.Refused why → handed-on ≡ enteredWhy x → answer ≡ refusedWith l handed-on → answer ≡ operateOf l reading op
         unfolding storedIn enteredWhy
@@ -77,6 +79,6 @@ module _ (l : Ledger) (i : ℕ) {slots : ℕ} (n : length (l .threads) ≡ slots
   unfolding reportOf
   report-past e past = simp (n, e, past)
 
-  pub reported : {report : ThreadReport} → unrecorded (l .books) slots ≡ false → noThread slots i ≡ false → report ≡ reportValue (recordOf l i) → R.Accepted report ≡ reportOf l i
+  pub reported : {report : ThreadReport} → unrecorded (l .books) slots ≡ false → noThread slots i ≡ false → report ≡ reportValue (threadRecord l i) → R.Accepted report ≡ reportOf l i
   unfolding reportOf
   reported e named is = simp (n, e, named, is)

@@ -12,17 +12,16 @@ use Rattle.units.specs.declared.Cycles.{Cycles}
 use Rattle.books.specs.declared.Entered.{Entered}
 use Rattle.books.specs.declared.Entered.the-variants as E
 use Rattle.books.specs.declared.Operation.{Operation}
-use Rattle.books.specs.Stamp.{stampOf}
-use Rattle.books.specs.Enter.{noThread, unrecorded, past, busy}
+use Rattle.books.specs.Running.{stampOf, noThread, unrecorded, past, busy}
 use Rattle.books.proofs.Refusing.{EntryBy, entry-by}
 use Rattle.ledger.specs.declared.Ledger.{Ledger}
 use Rattle.ledger.specs.declared.Answer.the-variants as A
 use Rattle.ledger.specs.declared.Ledgered.{Ledgered}
 use Rattle.ledger.specs.declared.ThreadReport.{ThreadReport}
 use Rattle.ledger.specs.declared.Reported.the-variants as R
-use Rattle.ledger.specs.Operate.{usageOf, refusedWith, storedIn, operateTests, operateOf, reportOf}
-use Rattle.ledger.specs.Says.{answerSays}
-use Rattle.ledger.specs.Laws.{EveryRefusal}
+use Rattle.ledger.specs.Operate.{refusedWith, storedIn, operateTests, operateOf, reportOf}
+use Rattle.ledger.specs.Records.{concernedRecord, answerSays}
+use Rattle.ledger.specs.Laws.{OperationNumbers}
 use Rattle.ledger.proofs.Holds.{NeverInvalid}
 
 stored-number : (l : Ledger) (k : ℕ) (t : Bool) (x : Entered) → EntryBy t x → answerSays (storedIn l k x .answer) .number ≡ cond t (numberOf Overflow) ok
@@ -30,12 +29,12 @@ unfolding storedIn EntryBy answerSays
 stored-number l k t (E.Accepted e) h = rw h refl
 stored-number l k t (E.Refused why) h = rw (h .0, h .1) refl
 
-pub every-refusal : EveryRefusal
+pub every-refusal : OperationNumbers
 unfolding operateOf answerSays
 every-refusal l reading op =
     carried (λ (o : Ledgered). answerSays (o .answer) .number) (refusedWith l) _ (operateTests l op) ∙
     ap (inOrder (operateTests l op) numberOf)
-    (stored-number l _ _ _ (entry-by (l .books) (usageOf l op) (stampOf (reading .0)) op))
+    (stored-number l _ _ _ (entry-by (l .books) (concernedRecord l op) (stampOf (reading .0)) op))
 
 module _ (l : Ledger) (recorded : unrecorded (l .books) (length (l .threads)) ≡ false) where
   stored-fits : (k : ℕ) (t : Bool) (x : Entered) → EntryBy t x → storedIn l k x .answer ≡ A.Refused Invalid → ⊥

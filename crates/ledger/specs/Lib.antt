@@ -3,3 +3,4 @@ pub mod Says
 pub mod Sums
 pub mod Laws
 pub mod Threads
+pub mod Records

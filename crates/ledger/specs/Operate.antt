@@ -1,38 +1,24 @@
--- An operation on the whole ledger, and a report of a thread: 01's tests in order, then the entry over the record concerned, or what that record tells.
+-- Inside: an operation and a report as their contracts cite them, tests in 01's order and then the entry or what the record tells. `EveryOperation` and `OperationNumbers` (Laws.antt) and `EntriesExact` (crates/demands/specs/Entries.antt) say what they do.
 use Prim.Native.Nat.{ℕ}
 use mathlib.Core.Bool.{Bool}
 use mathlib.Core.List.{List, [], _∷_, _++_}
-use lib.ListN.{length, getD, set, replicate}
+use lib.ListN.{length, set}
 use Rattle.error.specs.declared.Refusal.{Refusal}
 use Rattle.error.specs.declared.Refusal.the-variants.{Invalid, BadThread}
 use Rattle.error.specs.InOrder.{Row, inOrder}
 use Rattle.units.specs.declared.Cycles.{Cycles}
-use Rattle.usage.specs.declared.ThreadUsage.{ThreadUsage}
-use Rattle.usage.specs.Record.{newIdle}
-use Rattle.usage.specs.Leaves.{averageCycles}
 use Rattle.books.specs.declared.Entered.{Entered}
 use Rattle.books.specs.declared.Entered.the-variants as E
 use Rattle.books.specs.declared.Operation.{Operation}
-use Rattle.books.specs.Stamp.{stampOf}
+use Rattle.books.specs.Running.{stampOf, noThread, unrecorded, past, concerned}
 use Rattle.books.specs.Entries.{enterOf}
-use Rattle.books.specs.Enter.{nothingBooked, noThread, unrecorded, past, entryTests, concerned}
+use Rattle.books.specs.Enter.{entryTests}
 use Rattle.ledger.specs.declared.Ledger.{Ledger}
 use Rattle.ledger.specs.declared.Answer.the-variants as A
 use Rattle.ledger.specs.declared.Ledgered.{Ledgered}
-use Rattle.ledger.specs.declared.ThreadReport.{ThreadReport}
 use Rattle.ledger.specs.declared.Reported.{Reported}
 use Rattle.ledger.specs.declared.Reported.the-variants as R
-
--- a ledger of so many threads in which nothing has run
-abbrev pub freshOf : ℕ → Ledger
-freshOf slots = record { books = nothingBooked; threads = replicate slots newIdle }
-
-abbrev pub recordOf : Ledger → ℕ → ThreadUsage
-recordOf l i = getD (l .threads) i newIdle
-
--- the record that an operation concerns
-abbrev pub usageOf : Ledger → Operation → ThreadUsage
-usageOf l op = recordOf l (concerned (l .books) op)
+use Rattle.ledger.specs.Records.{threadRecord, reportValue, concernedRecord}
 
 abbrev pub refusedWith : Ledger → Refusal → Ledgered
 refusedWith l why = record { answer = A.Refused why; ledger = l }
@@ -56,14 +42,10 @@ operateTests l op = tableTests l (past op (length (l .threads))) ++ entryTests (
 unfoldable pub operateOf : Ledger → Cycles → Operation → Ledgered
 operateOf l reading op =
     inOrder (operateTests l op) (refusedWith l)
-    (storedIn l (concerned (l .books) op) (enterOf (l .books) (usageOf l op) (stampOf (reading .0)) op))
-
--- Report: total, average.
-abbrev pub reportValue : ThreadUsage → ThreadReport
-reportValue u = record { total = u .«total_cycles»; average = averageCycles (u .«total_cycles») (u .«num_windows») }
+    (storedIn l (concerned (l .books) op) (enterOf (l .books) (concernedRecord l op) (stampOf (reading .0)) op))
 
 abbrev pub reportTests : Ledger → ℕ → List (Row Refusal)
 reportTests l i = tableTests l (noThread (length (l .threads)) i)
 
 unfoldable pub reportOf : Ledger → ℕ → Reported
-reportOf l i = inOrder (reportTests l i) R.Refused (R.Accepted (reportValue (recordOf l i)))
+reportOf l i = inOrder (reportTests l i) R.Refused (R.Accepted (reportValue (threadRecord l i)))

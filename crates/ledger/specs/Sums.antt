@@ -1,11 +1,11 @@
--- Closed stretches at true times, what is measured of them, and how far the sums may be off.
+-- Believed: closed stretches at true times, what is measured of them, and how far the sums may be off.
 use Prim.Native.Nat.{ℕ, _+_, _-_, _%_, _^_, _≤_}
 use mathlib.Core.Path.{_≡_}
 use mathlib.Core.Bool.{Bool, true, cond, _&&_, _||_}
 use mathlib.Core.List.{List, [], _∷_}
 use lib.Dec.{eqb}
-use Rattle.usage.specs.Leaves.{elapsedCycles}
-use Rattle.books.specs.Stamp.{stampOf}
+use Rattle.usage.specs.Formulas.{elapsedStamps}
+use Rattle.books.specs.Running.{stampOf}
 
 -- a closed stretch: its thread, whether that was tracked, and the true times at which it began and ended
 pub record Stretch : Type 0 where
@@ -19,23 +19,16 @@ unfoldable pub sumOf : (ℕ → ℕ → ℕ) → ℕ → List Stretch → ℕ
 sumOf measure i [] = 0
 sumOf measure i (s ∷ rest) = sumOf measure i rest + cond (s .tracked && eqb (s .thread) i) (measure (s .from) (s .to)) 0
 
--- the cycles that truly ran
 abbrev pub trueCycles : ℕ → ℕ → ℕ
 trueCycles from to = to - from
 
--- cycles between two stamps
 abbrev pub measured : ℕ → ℕ → ℕ
-measured from to = elapsedCycles (stampOf to) (stampOf from)
+measured from to = elapsedStamps (stampOf to) (stampOf from)
 
--- the stamp of a multiple of 2^32 is one more than its low bits
-abbrev pub multiple : ℕ → Bool
-multiple time = eqb (time % 2 ^ 32) 0
-
--- a stretch that begins or ends on a multiple of 2^32
+-- a stretch that begins or ends on a multiple of 2^32, whose stamp is one more than its low bits
 abbrev pub edge : ℕ → ℕ → ℕ
-edge from to = cond (multiple from || multiple to) 1 0
+edge from to = cond (eqb (from % 2 ^ 32) 0 || eqb (to % 2 ^ 32) 0) 1 0
 
--- no longer than 2^32 - 2 cycles
 abbrev pub Short : ℕ → ℕ → Type 0
 Short from to = to - from ≤ 2 ^ 32 - 2
 
@@ -62,12 +55,10 @@ pub record Within (a b most : ℕ) : Type 0 where
 abbrev pub StampsNear : Type 0
 StampsNear = (from to : ℕ) → from ≤ to → Short from to → Within (measured from to) (trueCycles from to) (edge from to)
 
--- a thread's total misses its true tracked cycles by at most one for each of its stretches that begins or ends on a multiple
--- of 2^32, where none is longer than 2^32 - 2 cycles
+-- a thread's total misses its true tracked cycles by at most one for each of its stretches on such an edge, where none is longer than 2^32 - 2 cycles
 abbrev pub TotalNear : ℕ → ℕ → List Stretch → Type 0
 TotalNear i total closed = AllShort i closed → Within total (sumOf trueCycles i closed) (sumOf edge i closed)
 
--- all stretches since one start, summed, miss by at most one, and by none unless the first begins or the last ends on such a
--- multiple, where none is longer
+-- all stretches since one start, summed, miss by at most one, and by none unless their whole is on such an edge, where none is longer
 abbrev pub ChainNear : ℕ → ℕ → List ℕ → Type 0
 ChainNear sum last times = ChainShort last times → Within sum (trueCycles (firstOf last times) last) (edge (firstOf last times) last)

@@ -1,4 +1,4 @@
--- What an onlooker keeps of the threads, who has the accepted operations and their true times: who ran from when to when, and who was tracked.
+-- Believed: what an onlooker keeps of the threads, who has the accepted operations and their true times. Who ran from when to when, and who was tracked.
 use Prim.Native.Nat.{ℕ, _+_}
 use mathlib.Core.Bool.{Bool, true, false, cond, not, _&&_}
 use mathlib.Core.List.{List, [], _∷_}
@@ -12,7 +12,6 @@ pub data Open : Type 0 where
   none : Open
   since : ℕ → ℕ → Open
 
--- What the accepted operations and their true times tell of the threads, never a ledger's own fields.
 pub record Threads : Type 0 where
   -- of the last accepted start, switch or stop, and of enable or disable that closes and opens
   pub stretch : Open
@@ -78,7 +77,3 @@ operated t op time = record {
   last = cond (begins t op) time (cond (closesNow t op) time (t .last));
   times = cond (begins t op) [] (cond (closesNow t op) (t .last ∷ t .times) (t .times));
 }
-
--- the cycles answered since the last start, its own among them, summed
-abbrev pub answeredAfter : Threads → Operation → ℕ → ℕ → ℕ
-answeredAfter t op sum cycles = cond (begins t op) cycles (sum + cycles)

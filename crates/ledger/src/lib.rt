@@ -1,7 +1,8 @@
 // 01's ledger: the books and a table of thread records, an operation on them, and what they tell of a thread.
 ghost use mathlib.Core.Path.{_≡_};
-ghost use Rattle.ledger.specs.Operate.{freshOf, refusedWith, operateOf, reportValue, reportOf};
-ghost use Rattle.ledger.specs.Says.{answerSays, reportedSays};
+ghost use Rattle.ledger.specs.Operate.{refusedWith, operateOf, reportOf};
+ghost use Rattle.ledger.specs.Records.{freshLedger, reportValue, answerSays};
+ghost use Rattle.ledger.specs.Says.{reportedSays};
 use books::Books;
 use books::Entered;
 use books::Operation;
@@ -153,7 +154,7 @@ impl Reported {
 
 // A ledger in which nothing has run.
 pub fn fresh() -> Ledger
-    ensures { λ r. do ⌜ r ≡ freshOf (← ⟦ThreadUsage::SLOTS⟧ .entry) ⌝ }
+    ensures { λ r. do ⌜ r ≡ freshLedger (← ⟦ThreadUsage::SLOTS⟧ .entry) ⌝ }
 {
     let idle = ThreadUsage::new_idle();
     Ledger {

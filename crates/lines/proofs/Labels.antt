@@ -11,9 +11,10 @@ use borrow.Author.Tests.{le-ltb, ltb-false, leb-false, eqb-false}
 use Rattle.error.specs.declared.Refusal.the-variants.{NoSpace}
 use Rattle.lines.specs.declared.Written.the-variants as W
 use Rattle.lines.specs.declared.label.Label.{Label}
-use Rattle.lines.specs.Text.{decimal, lineRoom, roomyWritten}
+use Rattle.lines.specs.Text.{decimal}
+use Rattle.lines.specs.Buffer.{lineRoom, roomyWritten}
 use Rattle.lines.specs.Writing.{two, Put, Below}
-use Rattle.lines.specs.Naming.{bare, ofParts, lost, wholeOf, labelText, underneath, labelPut, labelWritten}
+use Rattle.lines.specs.Naming.{bare, ofParts, unusable, joined, labelText, underneath, labelPut, labelWritten}
 use Rattle.lines.proofs.Decimal.{size-most}
 use Rattle.lines.proofs.Stores.{in-parts}
 use Rattle.lines.proofs.Named.{behind-front}
@@ -50,11 +51,11 @@ module _ (head pair : ℕ) where
 
 -- what is put where the text can't be used, and where it can
 module _ (l : Label) where
-  text-lost : lost l ≡ true → (underneath l ≡ []) × (labelText l ≡ decimal (wholeOf (l .head) (l .pair)) ++ 32 ∷ [])
+  text-lost : unusable l ≡ true → (underneath l ≡ []) × (labelText l ≡ decimal (joined (l .head) (l .pair)) ++ 32 ∷ [])
   unfolding underneath labelText
   text-lost e = rw e (refl, refl)
 
-  text-kept : lost l ≡ false → (underneath l ≡ l .text) × (labelText l ≡ take (l .size) (l .text) ++ (two (l .pair) ++ 32 ∷ []))
+  text-kept : unusable l ≡ false → (underneath l ≡ l .text) × (labelText l ≡ take (l .size) (l .text) ++ (two (l .pair) ++ 32 ∷ []))
   unfolding underneath labelText
   text-kept e = rw e (refl, append-assoc (take (l .size) (l .text)) (two (l .pair)) (32 ∷ []))
 
@@ -69,20 +70,20 @@ module _ (buffer : List ℕ) (at : ℕ) (l : Label) where
   stands room put = rw (le-ltb (length buffer) (at + lineRoom) room) (ap W.Accepted (put .next), put .bytes)
 
   -- a number put as a whole
-  pub whole-number : {now : List ℕ} {end : ℕ} → at + lineRoom ≤ length buffer → lost l ≡ true → Put buffer now at end (decimal (wholeOf (l .head) (l .pair)) ++ 32 ∷ []) → (W.Accepted end ≡ labelWritten buffer at l) × (now ≡ labelPut buffer at l)
+  pub whole-number : {now : List ℕ} {end : ℕ} → at + lineRoom ≤ length buffer → unusable l ≡ true → Put buffer now at end (decimal (joined (l .head) (l .pair)) ++ 32 ∷ []) → (W.Accepted end ≡ labelWritten buffer at l) × (now ≡ labelPut buffer at l)
   whole-number {now} {end} room e put = stands room (rw (text-lost l e .0, text-lost l e .1) put)
 
 -- what is known where the text is used
 pub record Kept (buffer : List ℕ) (at : ℕ) (l : Label) : Type 0 where
   pub room : at + lineRoom ≤ length buffer
-  pub used : lost l ≡ false
+  pub used : unusable l ≡ false
   pub long : length (l .text) ≡ 8
   pub few : l .size ≤ 8
   pub small : l .pair < 100
 
 module _ (buffer : List ℕ) (at : ℕ) (l : Label) where
-  pub kept : at + lineRoom ≤ length buffer → lost l ≡ false → length (l .text) ≡ 8 → Kept buffer at l
-  unfolding lost
+  pub kept : at + lineRoom ≤ length buffer → unusable l ≡ false → length (l .text) ≡ 8 → Kept buffer at l
+  unfolding unusable
   kept room e long =
       let parts = neither (eqb (l .size) 0 || ltb 8 (l .size)) (ltb 99 (l .pair)) e in
       let sizes = neither (eqb (l .size) 0) (ltb 8 (l .size)) (parts .0) in

@@ -14,7 +14,7 @@ use Rattle.error.proofs.Tests.{clash}
 use Rattle.lines.specs.declared.label.Label.{Label}
 use Rattle.lines.specs.Text.{decimal}
 use Rattle.lines.specs.Writing.{two}
-use Rattle.lines.specs.Naming.{bare, spelt, ofParts, labelOf, nextLabel, lost, wholeOf, labelText, underneath, Named}
+use Rattle.lines.specs.Naming.{bare, spelt, ofParts, labelOf, nextLabel, unusable, joined, labelText, underneath, Named}
 use Rattle.lines.proofs.Decimal.{by-two, size-most}
 use Rattle.lines.proofs.Stores.{in-parts, run-sooner}
 
@@ -92,15 +92,15 @@ next-named l n named below = by-test (ltb (l .pair) 99) refl
         rw (ne-eqb (l .head) max64 (λ q. omega arith)) (parts-named (l .head + 1) 0 (n + 1) (omega arith) (omega arith))
 
 -- where the text is not used, the number is made anew
-whole-named : (l : Label) (n : ℕ) → Named l n → n ≤ max64 → wholeOf (l .head) (l .pair) ≡ n
-unfolding wholeOf
+whole-named : (l : Label) (n : ℕ) → Named l n → n ≤ max64 → joined (l .head) (l .pair) ≡ n
+unfolding joined
 whole-named l n named most =
     let whole : 100 * l .head + l .pair ≡ n = let h = named .head in let p = named .pair in omega arith in
     rw (whole, le-leb n max64 most)
 
 -- and where it is, it has the head's digits
-text-named : (l : Label) (n : ℕ) → Named l n → lost l ≡ false → take (l .size) (l .text) ++ two (l .pair) ≡ decimal n
-unfolding lost
+text-named : (l : Label) (n : ℕ) → Named l n → unusable l ≡ false → take (l .size) (l .text) ++ two (l .pair) ≡ decimal n
+unfolding unusable
 text-named l n named e = by-digits (named .digits)
   where
     by-digits : (l .size ≡ 0) ⊎ ((take (l .size) (l .text) ≡ decimal (l .head)) × (0 < l .head) × (l .size ≤ 8)) → take (l .size) (l .text) ++ two (l .pair) ≡ decimal n
@@ -112,16 +112,16 @@ text-named l n named e = by-digits (named .digits)
 -- either way what is put is the number and a space
 pub named-text : (l : Label) (n : ℕ) → Named l n → n ≤ max64 → labelText l ≡ decimal n ++ 32 ∷ []
 unfolding labelText
-named-text l n named most = by-test (lost l) refl
+named-text l n named most = by-test (unusable l) refl
   where
-    by-test : (b : Bool) → lost l ≡ b → cond b (decimal (wholeOf (l .head) (l .pair))) (take (l .size) (l .text) ++ two (l .pair)) ++ 32 ∷ [] ≡ decimal n ++ 32 ∷ []
+    by-test : (b : Bool) → unusable l ≡ b → cond b (decimal (joined (l .head) (l .pair))) (take (l .size) (l .text) ++ two (l .pair)) ++ 32 ∷ [] ≡ decimal n ++ 32 ∷ []
     by-test true e = rw (whole-named l n named most)
     by-test false e = rw (text-named l n named e)
 
 -- what is put before has no more than the text's eight bytes, which the rest of the line covers
 pub underneath-short : (l : Label) (n : ℕ) → Named l n → length (underneath l) ≤ 8
 unfolding underneath
-underneath-short l n named = by-test (lost l)
+underneath-short l n named = by-test (unusable l)
   where
     by-test : (b : Bool) → length (cond b [] (l .text)) ≤ 8
     by-test true = omega arith

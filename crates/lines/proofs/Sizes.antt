@@ -9,7 +9,8 @@ use lib.Signed.{mag}
 use mir.Syntax.{w32}
 use mir.Val.{SFits, toZ, ofZ}
 use mir.Facts.{toZ-ofZ}
-use Rattle.lines.specs.Text.{decimal, signed, valuesText, lineText, endText, tailText, inputText, lineRoom, restRoom, endRoom}
+use Rattle.lines.specs.Text.{decimal, signed, valuesText, lineText, endText, tailText, inputText}
+use Rattle.lines.specs.Buffer.{lineRoom, restRoom, endRoom}
 use Rattle.lines.proofs.Decimal.{size-most, size-64}
 
 pub values-size : (code : ℤ) (x y : ℕ) → length (valuesText code x y) ≡ length (signed code) + length (decimal x) + length (decimal y) + 3

@@ -10,7 +10,8 @@ use lib.IntN.{ℤ, pos}
 use lib.Signed.{mag}
 use borrow.Author.Tests.{le-ltb}
 use Rattle.lines.specs.declared.Written.the-variants as W
-use Rattle.lines.specs.Text.{decimal, signed, valuesText, lineText, writtenOf, putOf, lineRoom, restRoom}
+use Rattle.lines.specs.Text.{decimal, signed, valuesText, lineText}
+use Rattle.lines.specs.Buffer.{writtenOf, putOf, lineRoom, restRoom}
 use Rattle.lines.specs.Writing.{Room, Put}
 use Rattle.lines.proofs.Stores.{then-byte, spelt, and-byte}
 use Rattle.lines.proofs.Sizes.{values-size, line-size, rest-room, line-room}

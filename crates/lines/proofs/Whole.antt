@@ -10,7 +10,7 @@ use lib.Dec.{ltb, leb}
 use borrow.Author.Tests.{le-leb, lt-leb, le-ltb, ltb-true}
 use Rattle.error.specs.declared.Refusal.the-variants.{NoSpace}
 use Rattle.lines.specs.declared.Written.the-variants as W
-use Rattle.lines.specs.Text.{fits, putOf, writtenOf, roomyPut, roomyWritten}
+use Rattle.lines.specs.Buffer.{fits, putOf, writtenOf, roomyPut, roomyWritten}
 use Rattle.lines.specs.Writing.{Put}
 
 module _ (buffer : List ℕ) (at : ℕ) (text : List ℕ) where

@@ -9,7 +9,8 @@ use lib.Seq.{sets}
 use lib.Dec.{ltb}
 use lib.IntN.{ℤ}
 use Rattle.lines.specs.declared.Written.the-variants as W
-use Rattle.lines.specs.Text.{decimal, signed, endText, writtenOf, putOf}
+use Rattle.lines.specs.Text.{decimal, signed, endText}
+use Rattle.lines.specs.Buffer.{writtenOf, putOf}
 use Rattle.lines.specs.Writing.{Room, Put}
 use Rattle.lines.proofs.Stores.{then, then-byte}
 use Rattle.lines.proofs.Sizes.{end-size, reason-size}

@@ -3,3 +3,4 @@ pub mod Says
 pub mod Writing
 pub mod ReadsBack
 pub mod Naming
+pub mod Buffer

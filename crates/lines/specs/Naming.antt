@@ -1,4 +1,4 @@
--- A record's number, kept as text from line to line: what is kept, what is put, and when a label is a number's.
+-- Inside: a record's number, kept as text from line to line: what is kept, what is put, and when a label is a number's. `Readers` and `Writers` (crates/demands/specs) say what a label reads as and what is put.
 use Prim.Native.Nat.{ℕ, _+_, _*_, _/_, _%_, _≤_, _<_}
 use mathlib.Core.Path.{_≡_}
 use mathlib.Core.Bool.{Bool, cond, _||_}
@@ -10,7 +10,8 @@ use lib.Dec.{ltb, leb, eqb}
 use Rattle.error.specs.Numbers.{max64}
 use Rattle.lines.specs.declared.Written.{Written}
 use Rattle.lines.specs.declared.label.Label.{Label}
-use Rattle.lines.specs.Text.{decimal, lineRoom, roomyWritten}
+use Rattle.lines.specs.Text.{decimal}
+use Rattle.lines.specs.Buffer.{lineRoom, roomyWritten}
 use Rattle.lines.specs.Writing.{two}
 
 -- with no text, and with the head's digits
@@ -35,20 +36,20 @@ nextLabel l =
     (cond (eqb (l .head) max64) l (ofParts (l .head + 1) 0))
 
 -- its text can't be used
-unfoldable pub lost : Label → Bool
-lost l = (eqb (l .size) 0 || ltb 8 (l .size)) || ltb 99 (l .pair)
+unfoldable pub unusable : Label → Bool
+unusable l = (eqb (l .size) 0 || ltb 8 (l .size)) || ltb 99 (l .pair)
 
 -- the number that the two parts make; 0 where it has more than 64 bits
-unfoldable pub wholeOf : ℕ → ℕ → ℕ
-wholeOf head pair = cond (leb (100 * head + pair) max64) (100 * head + pair) 0
+unfoldable pub joined : ℕ → ℕ → ℕ
+joined head pair = cond (leb (100 * head + pair) max64) (100 * head + pair) 0
 
 -- the number's digits, and a space
 unfoldable pub labelText : Label → List ℕ
-labelText l = cond (lost l) (decimal (wholeOf (l .head) (l .pair))) (take (l .size) (l .text) ++ two (l .pair)) ++ 32 ∷ []
+labelText l = cond (unusable l) (decimal (joined (l .head) (l .pair))) (take (l .size) (l .text) ++ two (l .pair)) ++ 32 ∷ []
 
 -- what is put before, of which nothing is left once the line is whole
 unfoldable pub underneath : Label → List ℕ
-underneath l = cond (lost l) [] (l .text)
+underneath l = cond (unusable l) [] (l .text)
 
 unfoldable pub labelPut : List ℕ → ℕ → Label → List ℕ
 labelPut buffer at l = cond (ltb (length buffer) (at + lineRoom)) buffer (sets (sets buffer at (underneath l)) at (labelText l))

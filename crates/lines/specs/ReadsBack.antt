@@ -1,4 +1,4 @@
--- That the digits are right: they read back as the number, are digits, and begin with no zero.
+-- Evidence: that the digits are right. They read back as the number, are digits, and begin with no zero.
 use Prim.Native.Nat.{_-_, ℕ, suc, _+_, _*_, _≤_, _<_}
 use mathlib.Core.Path.{_≡_}
 use mathlib.Core.List.{List, [], _∷_}

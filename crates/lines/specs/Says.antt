@@ -1,4 +1,4 @@
--- What the answer of a writer says: 01's number, and the place after the text.
+-- Inside: what the answer of a writer says. `Readers` (crates/demands/specs/Readers.antt) says it.
 use Prim.Native.Nat.{ℕ}
 use Rattle.error.specs.Said.{Said, accepted, refused}
 use Rattle.lines.specs.declared.Written.{Written}

@@ -1,15 +1,11 @@
--- The text of the output, byte by byte, and how a text is put into a buffer.
+-- Believed: the text of the output, byte by byte.
 use Prim.Native.Nat.{ℕ, zero, suc, _+_, _/_, _%_}
-use mathlib.Core.Bool.{Bool, cond}
+use mathlib.Core.Bool.{cond}
 use mathlib.Core.List.{List, [], _∷_, _++_}
-use lib.ListN.{length}
-use lib.Seq.{sets}
-use lib.Dec.{ltb, leb}
+use lib.Dec.{ltb}
 use lib.IntN.{ℤ, pos, negsuc}
 use Rattle.error.specs.declared.Refusal.the-variants.{Invalid, NoSpace}
 use Rattle.error.specs.Numbers.{numberOf}
-use Rattle.lines.specs.declared.Written.{Written}
-use Rattle.lines.specs.declared.Written.the-variants as W
 
 -- n in at most most + 1 digits: the last is n % 10, and before it stands n / 10; 48 is the byte of 0
 abbrev pub digitsOf : ℕ → ℕ → List ℕ
@@ -44,33 +40,3 @@ tailText = 116 ∷ 97 ∷ 105 ∷ 108 ∷ 32 ∷ signed (numberOf Invalid) ++ 10
 -- "input " and the number of NoSpace
 unfoldable pub inputText : List ℕ
 inputText = 105 ∷ 110 ∷ 112 ∷ 117 ∷ 116 ∷ 32 ∷ signed (numberOf NoSpace) ++ 10 ∷ []
-
--- no line of 64-bit numbers and a 32-bit code is longer, nor is the last one
-abbrev pub lineRoom : ℕ
-lineRoom = 75
-
--- and of it what follows the number
-abbrev pub restRoom : ℕ
-restRoom = 54
-
-abbrev pub endRoom : ℕ
-endRoom = 46
-
--- whether there is room for a text from a place on
-unfoldable pub fits : List ℕ → ℕ → List ℕ → Bool
-fits buffer at text = leb (at + length text) (length buffer)
-
--- the buffer with the text from that place on, or as it was
-unfoldable pub putOf : List ℕ → ℕ → List ℕ → List ℕ
-putOf buffer at text = cond (fits buffer at text) (sets buffer at text) buffer
-
--- the place after the text, or no room
-unfoldable pub writtenOf : List ℕ → ℕ → List ℕ → Written
-writtenOf buffer at text = cond (fits buffer at text) (W.Accepted (at + length text)) (W.Refused NoSpace)
-
--- the same where so much room is asked for, however short the text is
-unfoldable pub roomyPut : ℕ → List ℕ → ℕ → List ℕ → List ℕ
-roomyPut room buffer at text = cond (ltb (length buffer) (at + room)) buffer (sets buffer at text)
-
-unfoldable pub roomyWritten : ℕ → List ℕ → ℕ → List ℕ → Written
-roomyWritten room buffer at text = cond (ltb (length buffer) (at + room)) (W.Refused NoSpace) (W.Accepted (at + length text))

@@ -1,6 +1,6 @@
 // A record's number at the head of its line: all but its last two digits are kept as text from line to line.
 ghost use mathlib.Core.Path.{_≡_};
-ghost use Rattle.lines.specs.Naming.{ofParts, labelOf, nextLabel, wholeOf, labelPut, labelWritten};
+ghost use Rattle.lines.specs.Naming.{ofParts, labelOf, nextLabel, joined, labelPut, labelWritten};
 use crate::LINE_ROOM;
 use crate::Written;
 use crate::buffer::lacks_room;
@@ -69,7 +69,7 @@ impl Label {
 
 // The number that the two parts make; 0 where it has more than 64 bits.
 fn whole(head: u64, pair: u64) -> u64
-    ensures { λ r. ⌜ r ≡ wholeOf head pair ⌝ }
+    ensures { λ r. ⌜ r ≡ joined head pair ⌝ }
 {
     let room = (u64::MAX - pair) / 100;
     if head <= room {

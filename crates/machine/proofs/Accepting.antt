@@ -13,14 +13,15 @@ use Rattle.clock.specs.declared.Announced.{Announced}
 use Rattle.clock.specs.declared.Announced.the-variants as A
 use Rattle.clock.specs.declared.SetUp.the-variants as U
 use Rattle.clock.specs.declared.Sampled.the-variants as S
-use Rattle.clock.specs.Timer.{setup, setUp, wellFormed}
-use Rattle.clock.specs.Sample.{sampleOf, sampleValue}
+use Rattle.clock.specs.Timer.{setup, wellFormed}
+use Rattle.clock.specs.Entries.{setUp, sampleOf}
+use Rattle.clock.specs.Sample.{sampleValue}
 use Rattle.clock.specs.Announce.{announcement, announceOf}
 use Rattle.error.proofs.Tests.{clash}
 use Rattle.trace.specs.declared.Setup.{Setup}
 use Rattle.clock.proofs.Outcomes.{formed-valid, set-up, sampled}
 use Rattle.clock.proofs.Steps.{announced-by}
-use Rattle.books.specs.Enter.{unrecorded}
+use Rattle.books.specs.Running.{unrecorded}
 use Rattle.table.specs.declared.Core.{Core}
 use Rattle.table.specs.declared.tasks.Task.{Task}
 use Rattle.table.specs.declared.tasks.Task.the-variants as T

@@ -10,7 +10,7 @@ use Rattle.clock.specs.declared.Announced.the-variants as A
 use Rattle.clock.specs.Announce.{announceOf}
 use Rattle.books.specs.declared.Books.{Books}
 use Rattle.books.specs.declared.Operation.{Operation}
-use Rattle.books.specs.Enter.{noThread, unrecorded, past, busy}
+use Rattle.books.specs.Running.{noThread, unrecorded, past, busy}
 use Rattle.trace.specs.declared.Decoded.{Decoded}
 use Rattle.trace.specs.declared.Decoded.the-variants as D
 use Rattle.table.specs.declared.Core.{Core}
@@ -19,9 +19,9 @@ use Rattle.table.specs.declared.tasks.Task.the-variants as T
 use Rattle.table.specs.declared.tasks.Then.the-variants as W
 use Rattle.table.specs.Task.{taskOf, askedBy}
 use Rattle.table.specs.Table.{malformed, table}
-use Rattle.changes.specs.declared.Change.{Change}
-use Rattle.changes.specs.declared.Change.the-variants as X
-use Rattle.changes.specs.Change.{ranChange, sampledChange, announcedChange, setUpChange, effectChange, taskChange, recordChange, changeOf}
+use Rattle.table.specs.declared.changes.Change.{Change}
+use Rattle.table.specs.declared.changes.Change.the-variants as X
+use Rattle.table.specs.Change.{ranChange, sampledChange, announcedChange, setUpChange, effectChange, taskChange, recordChange, changeOf}
 use Rattle.machine.proofs.Passed.{Passed, passed}
 use Rattle.machine.proofs.Accepting.{recorded-of, Accepts, let-through}
 

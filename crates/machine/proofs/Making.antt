@@ -6,17 +6,18 @@ use Rattle.ledger.specs.declared.Answer.the-variants as N
 use Rattle.ledger.specs.declared.Ledgered.{Ledgered}
 use Rattle.ledger.specs.declared.Reported.{Reported}
 use Rattle.ledger.specs.declared.Reported.the-variants as R
-use Rattle.ledger.specs.Operate.{freshOf, operateOf, reportOf}
+use Rattle.ledger.specs.Operate.{operateOf, reportOf}
+use Rattle.ledger.specs.Records.{freshLedger}
 use Rattle.table.specs.declared.Reason.{Reason}
 use Rattle.table.specs.declared.Reason.the-variants as Why
 use Rattle.table.specs.declared.Outcome.{Outcome}
 use Rattle.table.specs.declared.Outcome.the-variants as O
-use Rattle.changes.specs.declared.Change.{Change}
-use Rattle.changes.specs.declared.Change.the-variants as X
+use Rattle.table.specs.declared.changes.Change.{Change}
+use Rattle.table.specs.declared.changes.Change.the-variants as X
 use Rattle.table.specs.Says.{values}
 use Rattle.machine.specs.declared.Machine.{Machine}
 use Rattle.machine.specs.declared.Stepped.{Stepped}
-use Rattle.machine.specs.Step.{answers, reportTells, accepted, withTimer, slotsOf}
+use Rattle.machine.specs.Step.{answers, reportTells, steppedTo, withTimer, slotsOf}
 
 abbrev pub turned : Machine → Reason → Stepped
 turned m why = record { outcome = O.Refused why; machine = m }
@@ -30,13 +31,13 @@ abbrev pub enteredBy : Machine → Timer → Ledgered → Stepped
 enteredBy m timer l = record { outcome = operationTells (l .answer); machine = record { ready = m .ready; timer = timer; ledger = l .ledger } }
 
 unfoldable pub reportedBy : Machine → Reported → Stepped
-reportedBy m (R.Accepted report) = accepted (answers (reportTells report) m)
+reportedBy m (R.Accepted report) = steppedTo (answers (reportTells report) m)
 reportedBy m (R.Refused why) = turned m Why.Malformed
 
 unfoldable pub madeOf : Machine → Change → Stepped
 madeOf m (X.Refused why) = turned m why
-madeOf m (X.Ran counter) = accepted (answers (values 0 0) (withTimer m (record { counter = counter; clock = m .timer .clock })))
+madeOf m (X.Ran counter) = steppedTo (answers (values 0 0) (withTimer m (record { counter = counter; clock = m .timer .clock })))
 madeOf m (X.Told timer values) = record { outcome = O.Accepted values; machine = withTimer m timer }
 madeOf m (X.Enter timer op reading) = enteredBy m timer (operateOf (m .ledger) reading op)
 madeOf m (X.Report i) = reportedBy m (reportOf (m .ledger) i)
-madeOf m (X.Fresh timer) = accepted (answers (values 0 0) (record { ready = true; timer = timer; ledger = freshOf (slotsOf m) }))
+madeOf m (X.Fresh timer) = steppedTo (answers (values 0 0) (record { ready = true; timer = timer; ledger = freshLedger (slotsOf m) }))

@@ -5,7 +5,7 @@ use mathlib.Core.List.{List, [], _∷_, _++_}
 use mathlib.Core.Logic.{inl, inr}
 use Rattle.error.specs.InOrder.{Row, NoneHolds, FirstIs}
 use Rattle.error.proofs.Tests.{clash}
-use Rattle.counter.specs.Entries.{cyclesAbove}
+use Rattle.counter.specs.Readings.{cyclesAbove}
 use Rattle.clock.specs.Sample.{crowded}
 use Rattle.table.specs.declared.Core.{Core}
 use Rattle.table.specs.declared.Reason.{Reason}

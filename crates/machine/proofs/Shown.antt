@@ -1,24 +1,25 @@
 -- The boundaries, by computation.
 use mathlib.Core.Path.{refl}
-use Rattle.usage.specs.Leaves.{enabled, accumulated, averageCycles}
+use Rattle.usage.specs.Leaves.{enabled, accumulated}
+use Rattle.usage.specs.Formulas.{averageCycles}
 use Rattle.counter.specs.Cycle.{cycle, runN}
-use Rattle.counter.specs.Entries.{goodPeriod, inRange}
+use Rattle.counter.specs.Readings.{goodPeriod, inRange}
 use Rattle.clock.specs.Timer.{wellFormed}
-use Rattle.clock.specs.Sample.{sampleOf}
+use Rattle.clock.specs.Entries.{sampleOf}
 use Rattle.clock.specs.Announce.{announceOf}
-use Rattle.books.specs.Stamp.{stampOf}
-use Rattle.books.specs.Entries.{runs, charged, withChange, onward, closeOf, stopOf, switchOf, altered, reopenOf, alterOf, enterOf}
-use Rattle.books.specs.Enter.{unrecorded, past, busy, entryOf, concerned}
+use Rattle.books.specs.Entries.{charged, withChange, onward, closeOf, stopOf, switchOf, altered, reopenOf, alterOf, enterOf}
+use Rattle.books.specs.Running.{isRunning, stampOf, unrecorded, past, busy, concerned}
+use Rattle.books.specs.Enter.{entryOf}
 use Rattle.table.specs.Task.{taskOf, askedBy}
-use Rattle.table.specs.Table.{malformed}
+use Rattle.table.specs.Table.{malformed, columns}
 use Rattle.books.specs.Laws.{closes, rises, tooMany, full}
 use Rattle.ledger.specs.Operate.{storedIn, operateOf, reportOf}
-use Rattle.ledger.specs.Says.{answerSays}
-use Rattle.machine.specs.Step.{announceRows, lastRows, recordRows, afterTouch, doneBy, acceptedBy, stepOf}
-use Rattle.machine.specs.Shown.{Shown}
+use Rattle.ledger.specs.Records.{answerSays}
+use Rattle.machine.specs.Step.{announceRows, lastRows, recordRows, doneBy, acceptedBy, stepOf}
+use Rattle.machine.specs.Shown.{TableShown}
 
-pub shown : Shown
-unfolding enabled accumulated averageCycles cycle runN goodPeriod inRange wellFormed sampleOf announceOf stampOf runs charged withChange onward closeOf stopOf switchOf altered reopenOf alterOf enterOf unrecorded past busy entryOf concerned taskOf askedBy malformed closes rises tooMany full storedIn operateOf reportOf announceRows lastRows recordRows afterTouch doneBy acceptedBy answerSays stepOf
+pub shown : TableShown
+unfolding enabled accumulated averageCycles cycle runN goodPeriod inRange wellFormed sampleOf announceOf stampOf isRunning charged withChange onward closeOf stopOf switchOf altered reopenOf alterOf enterOf unrecorded past busy entryOf concerned taskOf askedBy malformed closes rises tooMany full storedIn operateOf reportOf announceRows lastRows recordRows columns doneBy acceptedBy answerSays stepOf
 shown = record {
   cycles-fit = refl;
   cycles-above = refl;

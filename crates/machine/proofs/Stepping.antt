@@ -31,23 +31,23 @@ use Rattle.table.specs.declared.tasks.Task.the-variants as T
 use Rattle.table.specs.declared.tasks.Then.{Then}
 use Rattle.table.specs.declared.tasks.Then.the-variants as W
 use Rattle.table.specs.Task.{taskOf, askedBy}
-use Rattle.table.specs.Table.{malformed, table}
+use Rattle.table.specs.Table.{malformed, table, afterTouch, columns}
 use Rattle.machine.specs.declared.Machine.{Machine}
 use Rattle.machine.specs.declared.Stepped.{Stepped}
-use Rattle.machine.specs.Step.{coreOf, slotsOf, announceRows, lastRows, taskRows, recordRows, rowsOf, afterTouch, withTimer, Done, doneBy, acceptedBy, accepted, refused, stepOf}
+use Rattle.machine.specs.Step.{coreOf, slotsOf, announceRows, lastRows, taskRows, recordRows, rowsOf, withTimer, Done, doneBy, acceptedBy, steppedTo, turnedAway, stepOf}
 use Rattle.machine.proofs.Passed.{Passed, passed, none-holds, before-sum}
 use Rattle.machine.proofs.Making.{operationTells, enteredBy}
-use Rattle.machine.specs.Laws.{Operates, Exactly, EveryRefusal, EveryAnswer}
+use Rattle.machine.specs.Laws.{Operates, Exactly, KeptByRefusal, EveryAnswer}
 use Rattle.machine.proofs.Accepting.{Runs, Samples, Accepts, let-through}
 use Rattle.machine.proofs.Tying.{operation-made}
 
 -- a step by any rows: its outcome is that of its tests
 module _ (m : Machine) (rows : List (Row Reason)) (done : Done) where
   abbrev pub byRows : Stepped
-  byRows = inOrder rows (refused m done) (accepted done)
+  byRows = inOrder rows (turnedAway m done) (steppedTo done)
 
   outcome-is : byRows .outcome ≡ inOrder rows O.Refused (O.Accepted (done .values))
-  outcome-is = carried (λ (s : Stepped). s .outcome) (refused m done) (accepted done) rows
+  outcome-is = carried (λ (s : Stepped). s .outcome) (turnedAway m done) (steppedTo done) rows
 
   none-held : (answered : Values) → byRows .outcome ≡ O.Accepted answered → NoneHolds rows
   none-held answered e = by-outcome O.Refused _ (λ (o : Outcome). o ≡ O.Accepted answered → NoneHolds rows) rows (λ why q. clash (cc)) (λ none q. none) (sym outcome-is ∙ e)
@@ -55,11 +55,11 @@ module _ (m : Machine) (rows : List (Row Reason)) (done : Done) where
   first-held : (why : Reason) → byRows .outcome ≡ O.Refused why → FirstIs rows why
   first-held why e = refused-only O.Refused _ (λ w q. clash (cc)) (λ r s q. cc) rows why (sym outcome-is ∙ e)
 
-  done-step : (answered : Values) → byRows .outcome ≡ O.Accepted answered → byRows ≡ accepted done
-  done-step answered e = accepts (refused m done) (accepted done) rows (none-held answered e)
+  done-step : (answered : Values) → byRows .outcome ≡ O.Accepted answered → byRows ≡ steppedTo done
+  done-step answered e = accepts (turnedAway m done) (steppedTo done) rows (none-held answered e)
 
-  refused-step : (why : Reason) → byRows .outcome ≡ O.Refused why → byRows ≡ refused m done why
-  refused-step why e = refuses (refused m done) (accepted done) rows why (first-held why e)
+  refused-step : (why : Reason) → byRows .outcome ≡ O.Refused why → byRows ≡ turnedAway m done why
+  refused-step why e = refuses (turnedAway m done) (steppedTo done) rows why (first-held why e)
 
   done-is : (answered : Values) → byRows .outcome ≡ O.Accepted answered → (answered ≡ done .values) × (byRows .machine ≡ done .machine)
   done-is answered e =
@@ -69,7 +69,7 @@ module _ (m : Machine) (rows : List (Row Reason)) (done : Done) where
 
 -- nothing is touched but where a sum or window does not fit
 pub touched-why : (why : Reason) → afterTouch why ≡ true → why ≡ Why.WontFit
-unfolding afterTouch
+unfolding columns
 touched-why Why.Malformed e = absurd (false≢true e)
 touched-why Why.BadRecord e = absurd (false≢true e)
 touched-why Why.NotSetUp e = absurd (false≢true e)
@@ -126,7 +126,7 @@ module _ (m : Machine) where
   unfolding taskStep
   task-done task = done-is m (allRows task) (doneBy m task)
 
-  pub task-refused : (task : Task) (why : Reason) → taskStep task .outcome ≡ O.Refused why → taskStep task ≡ refused m (doneBy m task) why
+  pub task-refused : (task : Task) (why : Reason) → taskStep task .outcome ≡ O.Refused why → taskStep task ≡ turnedAway m (doneBy m task) why
   unfolding taskStep
   task-refused task = refused-step m (allRows task) (doneBy m task)
 
@@ -154,15 +154,15 @@ module _ (m : Machine) where
   touches-sum task e = touched-sum task (first-held m (allRows task) (doneBy m task) Why.WontFit e)
 
   -- what is touched meets the last rows
-  had : (task : Task) → Touches task → taskStep task ≡ inOrder (lastRows m task) (refused m (doneBy m task)) (accepted (doneBy m task))
+  had : (task : Task) → Touches task → taskStep task ≡ inOrder (lastRows m task) (turnedAway m (doneBy m task)) (steppedTo (doneBy m task))
   unfolding taskStep
   had task t =
-      let refuse = refused m (doneBy m task) in
+      let refuse = turnedAway m (doneBy m task) in
       let rows = table (coreOf m) (asks task) in
-      rw (t .whole) (in-turn refuse rows (lastRows m task) (accepted (doneBy m task)) ∙ accepts refuse _ rows (none-holds (coreOf m) (asks task) [] (t .passed) tt))
+      rw (t .whole) (in-turn refuse rows (lastRows m task) (steppedTo (doneBy m task)) ∙ accepts refuse _ rows (none-holds (coreOf m) (asks task) [] (t .passed) tt))
 
   -- and is done where it has none
-  pub done : (task : Task) → lastRows m task ≡ [] → Touches task → taskStep task ≡ accepted (doneBy m task)
+  pub done : (task : Task) → lastRows m task ≡ [] → Touches task → taskStep task ≡ steppedTo (doneBy m task)
   done task none t = had task t ∙ rw none refl
 
   -- an operation is what the ledger makes of it at the sample's reading
@@ -208,14 +208,14 @@ module _ (m : Machine) where
   sum-of (T.Setup s) first = absurd first
 
   -- what a refused sum leaves: the sample, which is accepted by itself, and the ledger
-  pub sum-kept : (g : Gaps) (op : Operation) → taskStep (T.Sample g (W.Operate op)) .outcome ≡ O.Refused Why.WontFit → (taskStep (T.Sample g (W.Operate op)) .machine ≡ withTimer m (sampleValue (m .timer) g .timer)) × (taskStep (T.Sample g W.Tell) ≡ accepted (doneBy m (T.Sample g W.Tell)))
-  unfolding afterTouch doneBy lastRows
+  pub sum-kept : (g : Gaps) (op : Operation) → taskStep (T.Sample g (W.Operate op)) .outcome ≡ O.Refused Why.WontFit → (taskStep (T.Sample g (W.Operate op)) .machine ≡ withTimer m (sampleValue (m .timer) g .timer)) × (taskStep (T.Sample g W.Tell) ≡ steppedTo (doneBy m (T.Sample g W.Tell)))
+  unfolding columns doneBy lastRows
   sum-kept g op e = (
     ap (λ (s : Stepped). s .machine) (task-refused (T.Sample g (W.Operate op)) Why.WontFit e),
     done (T.Sample g W.Tell) refl (sample-touches g op (touches-sum (T.Sample g (W.Operate op)) e .0)),
   )
 
-  kept-sample : (d : Decoded) (r : Record) (g : Gaps) → d ≡ D.Accepted r → Operates r g → stepOf m d .outcome ≡ O.Refused Why.WontFit → (stepOf m d .machine ≡ withTimer m (stepOf m (D.Accepted (K.Sample g)) .machine .timer)) × (stepOf m (D.Accepted (K.Sample g)) ≡ accepted (doneBy m (T.Sample g W.Tell)))
+  kept-sample : (d : Decoded) (r : Record) (g : Gaps) → d ≡ D.Accepted r → Operates r g → stepOf m d .outcome ≡ O.Refused Why.WontFit → (stepOf m d .machine ≡ withTimer m (stepOf m (D.Accepted (K.Sample g)) .machine .timer)) × (stepOf m (D.Accepted (K.Sample g)) ≡ steppedTo (doneBy m (T.Sample g W.Tell)))
   unfolding taskOf doneBy
   kept-sample d r g ed o e =
       let task = of-task r ∙ ap taskStep (o .1) in
@@ -238,7 +238,7 @@ module _ (m : Machine) where
       no-row (inl here) = clash (let e = here .1 in cc)
       no-row (inr later) = at-record (later .1)
 
-pub every-refusal : EveryRefusal stepOf
+pub every-refusal : (m : Machine) (d : Decoded) → Exactly stepOf m d × KeptByRefusal stepOf m d
 every-refusal m d = (exactly m d, record { untouched = untouched m d; sampled = kept-sample m d; only-operations = only-operations m d })
 
 pub every-answer : EveryAnswer stepOf

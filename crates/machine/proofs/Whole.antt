@@ -6,7 +6,7 @@ use lib.ListN.{length-set, length-replicate}
 use lib.Dec.{eqb}
 use Rattle.error.proofs.Ordered.{by-outcome}
 use Rattle.usage.specs.declared.ThreadUsage.{ThreadUsage}
-use Rattle.usage.specs.Record.{newIdle}
+use Rattle.usage.specs.Formulas.{newIdle}
 use Rattle.clock.specs.declared.Announced.{Announced}
 use Rattle.clock.specs.Timer.{setup, wellFormed, GoodSetup}
 use Rattle.clock.specs.declared.Announced.the-variants as A
@@ -21,8 +21,7 @@ use Rattle.books.specs.declared.Entered.{Entered}
 use Rattle.books.specs.declared.Entered.the-variants as E
 use Rattle.books.specs.declared.Operation.{Operation}
 use Rattle.books.specs.declared.Operation.the-variants as P
-use Rattle.books.specs.Entries.{stopped, runs}
-use Rattle.books.specs.Enter.{noThread, unrecorded, past}
+use Rattle.books.specs.Running.{stopped, isRunning, noThread, unrecorded, past}
 use Rattle.books.specs.Laws.{closes, stampAfter, runningAfter, EntryIs}
 use Rattle.books.proofs.Entering.{entry-is}
 use Rattle.trace.specs.declared.Setup.{Setup}
@@ -40,12 +39,12 @@ use Rattle.machine.specs.declared.Machine.{Machine}
 use Rattle.machine.specs.Step.{coreOf, slotsOf, stepOf}
 use Rattle.machine.proofs.Making.{enteredBy, reportedBy, madeOf}
 use Rattle.machine.proofs.Tying.{operation-stored, step-made}
-use Rattle.changes.specs.declared.Change.{Change}
-use Rattle.changes.specs.declared.Change.the-variants as X
-use Rattle.changes.specs.Change.{ranChange, sampledChange, announcedChange, setUpChange, effectChange, taskChange, recordChange, changeOf}
+use Rattle.table.specs.declared.changes.Change.{Change}
+use Rattle.table.specs.declared.changes.Change.the-variants as X
+use Rattle.table.specs.Change.{ranChange, sampledChange, announcedChange, setUpChange, effectChange, taskChange, recordChange, changeOf}
 use Rattle.machine.proofs.Passed.{Passed, passed}
 use Rattle.machine.proofs.Accepting.{formed-of, recorded-of, announcement-is, Accepts, let-through}
-use Rattle.machine.specs.Laws.{Whole, StaysWhole}
+use Rattle.machine.specs.Laws.{Whole}
 use Rattle.machine.proofs.WholeClock.{run-formed, sample-formed, announcement-formed, setup-formed}
 
 -- a well-formed timer, and a record for the thread that runs
@@ -70,7 +69,7 @@ reopened false lost flag same stamp now t e = in-table (eqb (cond (flag && same)
 
 -- an accepted entry leaves a record for the thread that runs
 entry-recorded : (b : Books) (u : ThreadUsage) (now slots : ℕ) (op : Operation) (e : Entry) → unrecorded b slots ≡ false → past op slots ≡ false → EntryIs b u now op e → unrecorded (e .books) slots ≡ false
-unfolding unrecorded past closes runs stampAfter runningAfter
+unfolding unrecorded past closes isRunning stampAfter runningAfter
 entry-recorded b u now slots (P.Start i) e r p is = rw (is .stamp, is .running) (in-table (eqb now 0) _ p)
 entry-recorded b u now slots (P.Switch i) e r p is = rw (is .stamp, is .running) (in-table (eqb now 0) _ p)
 entry-recorded b u now slots P.Stop e r p is = rw (is .stamp) refl
@@ -135,6 +134,6 @@ module _ (m : Machine) (whole : Whole m) where
   record-leaves (D.Accepted r) = by-outcome X.Refused _ Leaves (table c (askedBy (m .ledger .books) slots (taskOf r))) turned-leaves (λ none. let p = passed c _ none in effect-leaves (taskOf r) (let-through c slots whole (taskOf r) p) p)
   record-leaves (D.Refused why) = turned-leaves Why.BadRecord
 
-pub stays-whole : StaysWhole stepOf
+pub stays-whole : (m : Machine) (d : Decoded) → Whole m → Whole (stepOf m d .machine)
 unfolding changeOf
 stays-whole m d whole = rw (step-made {m = m} {d = d} (record { slots = slotsOf m; broken = false; table = refl; form = whole; made = refl })) (record-leaves m whole d)

@@ -6,7 +6,7 @@ use native.Mathlib.Omega.{arith}
 use borrow.Author.Tests.{le-leb, leb-true}
 use lib.Dec.{leb}
 use Rattle.counter.specs.Cycle.{runN}
-use Rattle.counter.specs.Entries.{inRange}
+use Rattle.counter.specs.Readings.{inRange}
 use Rattle.counter.proofs.Outcomes.{both, in-range-of}
 use Rattle.clock.specs.declared.Gaps.{Gaps}
 use Rattle.clock.specs.declared.Timer.{Timer}

@@ -1,4 +1,4 @@
--- The laws of a machine's step, over any machine handed in and any record: exactly when it is refused and what it then leaves; what else it answers and leaves; that it makes no malformed state.
+-- Believed: a machine's step, over any machine handed in and any record. Exactly when it is refused and what it then leaves, and what else it answers and leaves.
 use mathlib.Core.Path.{_≡_}
 use mathlib.Core.Bool.{false}
 use mathlib.Core.Logic.{_↔_}
@@ -19,7 +19,7 @@ use Rattle.table.specs.Task.{taskOf}
 use Rattle.table.specs.Table.{malformed}
 use Rattle.machine.specs.declared.Machine.{Machine}
 use Rattle.machine.specs.declared.Stepped.{Stepped}
-use Rattle.machine.specs.Step.{coreOf, slotsOf, rowsOf, withTimer, doneBy, accepted}
+use Rattle.machine.specs.Step.{coreOf, slotsOf, rowsOf, withTimer, doneBy, steppedTo}
 
 -- a state that is not malformed
 abbrev pub Whole : Machine → Type 0
@@ -37,19 +37,12 @@ module _ (step : Machine → Decoded → Stepped) where
 
   -- refused before the touch: the machine is as it was. A refused sum or window: the ledger is as it was,
   -- counter and clock as kind 1 with the same gaps leaves them, which is accepted.
-  pub record Kept (m : Machine) (d : Decoded) : Type 0 where
+  pub record KeptByRefusal (m : Machine) (d : Decoded) : Type 0 where
     pub untouched : (why : Reason) → step m d .outcome ≡ O.Refused why → (why ≡ Why.WontFit → ⊥) → step m d .machine ≡ m
-    pub sampled : (r : Record) (g : Gaps) → d ≡ D.Accepted r → Operates r g → step m d .outcome ≡ O.Refused Why.WontFit → (step m d .machine ≡ withTimer m (step m (D.Accepted (K.Sample g)) .machine .timer)) × (step m (D.Accepted (K.Sample g)) ≡ accepted (doneBy m (T.Sample g W.Tell)))
+    pub sampled : (r : Record) (g : Gaps) → d ≡ D.Accepted r → Operates r g → step m d .outcome ≡ O.Refused Why.WontFit → (step m d .machine ≡ withTimer m (step m (D.Accepted (K.Sample g)) .machine .timer)) × (step m (D.Accepted (K.Sample g)) ≡ steppedTo (doneBy m (T.Sample g W.Tell)))
     -- nothing else is refused so
     pub only-operations : step m d .outcome ≡ O.Refused Why.WontFit → (r : Record) × (g : Gaps) × (d ≡ D.Accepted r) × Operates r g
-
-  abbrev pub EveryRefusal : Type 0
-  EveryRefusal = (m : Machine) (d : Decoded) → Exactly m d × Kept m d
 
   -- every accepted record answers and leaves what 01 says
   abbrev pub EveryAnswer : Type 0
   EveryAnswer = (m : Machine) (r : Record) (answered : Values) → step m (D.Accepted r) .outcome ≡ O.Accepted answered → (answered ≡ doneBy m (taskOf r) .values) × (step m (D.Accepted r) .machine ≡ doneBy m (taskOf r) .machine)
-
-  -- no record, accepted or refused, makes a state malformed that was not
-  abbrev pub StaysWhole : Type 0
-  StaysWhole = (m : Machine) (d : Decoded) → Whole m → Whole (step m d .machine)

@@ -1,4 +1,4 @@
--- 01's table on machines handed in: each row at its boundary and one past it, where two rows hold the first of them, and what each kind does with its numbers.
+-- Evidence: 01's table on machines handed in. Each row at its boundary and one past it, where two rows hold the first of them, and what each kind does with its numbers.
 use Prim.Native.Nat.{_-_, ℕ, _+_}
 use mathlib.Core.Path.{_≡_}
 use mathlib.Core.Bool.{Bool, true, false}
@@ -6,17 +6,17 @@ use mathlib.Core.List.{[], _∷_}
 use Rattle.error.specs.declared.Refusal.the-variants.{Invalid, BadThread, Again, Already, Overflow}
 use Rattle.error.specs.Numbers.{max32, max64}
 use Rattle.usage.specs.declared.ThreadUsage.{ThreadUsage}
-use Rattle.usage.specs.Record.{newIdle}
+use Rattle.usage.specs.Formulas.{newIdle}
 use Rattle.counter.specs.declared.Counter.{Counter}
 use Rattle.clock.specs.declared.Gaps.{Gaps}
 use Rattle.clock.specs.declared.Clock.{Clock}
 use Rattle.clock.specs.declared.Sampled.the-variants as S
 use Rattle.clock.specs.declared.Announced.the-variants as A
 use Rattle.clock.specs.Announce.{announceOf}
-use Rattle.clock.specs.Sample.{gaps, sampleOf}
+use Rattle.clock.specs.Entries.{gaps, sampleOf}
 use Rattle.books.specs.declared.Books.{Books}
-use Rattle.books.specs.Enter.{nothingBooked}
 use Rattle.books.specs.declared.Operation.the-variants as P
+use Rattle.books.specs.Running.{nothingBooked}
 use Rattle.ledger.specs.declared.Ledger.{Ledger}
 use Rattle.ledger.specs.declared.Answer.the-variants as N
 use Rattle.ledger.specs.declared.Reported.the-variants as R
@@ -24,11 +24,11 @@ use Rattle.ledger.specs.Operate.{operateOf, reportOf}
 use Rattle.trace.specs.declared.Record.{Record}
 use Rattle.trace.specs.declared.Record.the-variants as K
 use Rattle.trace.specs.declared.Decoded.the-variants as D
-use Rattle.machine.specs.declared.Machine.{Machine}
 use Rattle.table.specs.declared.Reason.{Reason}
 use Rattle.table.specs.declared.Reason.the-variants as Why
 use Rattle.table.specs.declared.Outcome.the-variants as O
 use Rattle.table.specs.Says.{values}
+use Rattle.machine.specs.declared.Machine.{Machine}
 use Rattle.machine.specs.Step.{stepOf}
 
 -- parts to hand in: period, value, flag, T; tick, count, announced, overflow; stamp, running, machine total; tracked, total, windows
@@ -60,8 +60,8 @@ abbrev pub atOnce : Gaps
 atOnce = gaps 0 0 0
 
 -- set up just now
-abbrev pub fresh : Machine
-fresh = timed (counter 10 10 false 0) (clock 4 0 0 0)
+abbrev pub justSetUp : Machine
+justSetUp = timed (counter 10 10 false 0) (clock 4 0 0 0)
 
 -- not set up, with something in every field
 abbrev pub unready : Machine
@@ -104,7 +104,7 @@ AsSample kind =
     stepOf (timed (counter 10 10 false 100) (clock 4 0 0 0)) (D.Accepted (kind (gaps 0 10 3))) .machine .timer ≡
     stepOf (timed (counter 10 10 false 100) (clock 4 0 0 0)) (D.Accepted (K.Sample (gaps 0 10 3))) .machine .timer
 
-pub record Shown : Type 0 where
+pub record TableShown : Type 0 where
   -- T may be 2^64 - 1, and may not pass it: by a run, and by the three gaps of a sample
   pub cycles-fit : Takes (timed (counter 10 10 false (max64 - 5)) (clock 4 0 0 0)) (K.Run 5) 0 0
   pub cycles-above : Turns (timed (counter 10 10 false (max64 - 5)) (clock 4 0 0 0)) (K.Run 6) Why.CyclesAbove
@@ -177,13 +177,13 @@ pub record Shown : Type 0 where
   -- a run that has no room for a sample is taken, since it takes none
   pub run-not : Takes (timed (counter 10 10 false max64) (clock 4 0 0 (max32 - 18))) (K.Run 0) 0 0
   -- a thread past the table, of the kinds not shown above, and a second setup
-  pub report-past : Turns fresh (K.Report 2) Why.NoThread
-  pub switch-past : Turns fresh (K.Switch 2 atOnce) Why.NoThread
-  pub enable-past : Turns fresh (K.Enable 2 atOnce) Why.NoThread
-  pub disable-past : Turns fresh (K.Disable 2 atOnce) Why.NoThread
-  pub last-report : Takes fresh (K.Report 1) 0 0
-  pub last-disable : Takes fresh (K.Disable 1 atOnce) 0 0
-  pub second-setup : Turns fresh (K.Setup (record { period = 10; tick = 4 })) Why.SecondSetup
+  pub report-past : Turns justSetUp (K.Report 2) Why.NoThread
+  pub switch-past : Turns justSetUp (K.Switch 2 atOnce) Why.NoThread
+  pub enable-past : Turns justSetUp (K.Enable 2 atOnce) Why.NoThread
+  pub disable-past : Turns justSetUp (K.Disable 2 atOnce) Why.NoThread
+  pub last-report : Takes justSetUp (K.Report 1) 0 0
+  pub last-disable : Takes justSetUp (K.Disable 1 atOnce) 0 0
+  pub second-setup : Turns justSetUp (K.Setup (record { period = 10; tick = 4 })) Why.SecondSetup
   -- each operation samples with its own three gaps, and in their order
   pub start-gaps : AsSample (K.Start 1)
   pub switch-gaps : AsSample (K.Switch 1)
@@ -191,11 +191,11 @@ pub record Shown : Type 0 where
   pub enable-gaps : AsSample (K.Enable 1)
   pub disable-gaps : AsSample (K.Disable 1)
   -- setup writes every field, whatever was there
-  pub all-written : stepOf unready (D.Accepted (K.Setup (record { period = 10; tick = 4 }))) ≡ record { outcome = O.Accepted (values 0 0); machine = fresh }
+  pub all-written : stepOf unready (D.Accepted (K.Setup (record { period = 10; tick = 4 }))) ≡ record { outcome = O.Accepted (values 0 0); machine = justSetUp }
   pub least-setup : Takes unready (K.Setup (record { period = 2; tick = 1 })) 0 0
   pub most-setup : Takes unready (K.Setup (record { period = 16777215; tick = max32 })) 0 0
   -- a setup that no bytes decode to is turned away by the first row, on a machine that is set up too
-  pub bad-setup : Turns fresh (K.Setup (record { period = 10; tick = 0 })) Why.BadRecord
+  pub bad-setup : Turns justSetUp (K.Setup (record { period = 10; tick = 0 })) Why.BadRecord
   pub short-setup : Turns unready (K.Setup (record { period = 1; tick = 4 })) Why.BadRecord
   pub long-setup : Turns unready (K.Setup (record { period = 16777216; tick = 4 })) Why.BadRecord
   -- the entries below make these tests by themselves, in the same order, for whoever calls them: a malformed state first

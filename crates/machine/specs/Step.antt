@@ -1,6 +1,6 @@
--- 01's machine: a record's step is 01's table. Its rows in order, what a refusal leaves, and what an accepted record answers and leaves.
+-- Believed: 01's machine. A record's step is 01's table: its rows in order, what a refusal leaves, and what an accepted record answers and leaves.
 use Prim.Native.Nat.{ℕ}
-use mathlib.Core.Bool.{Bool, true, false, cond}
+use mathlib.Core.Bool.{true, false, cond}
 use mathlib.Core.List.{List, [], _∷_, _++_}
 use lib.ListN.{length}
 use Rattle.error.specs.InOrder.{Row, inOrder}
@@ -12,14 +12,13 @@ use Rattle.clock.specs.declared.Announced.the-variants as A
 use Rattle.clock.specs.Timer.{setup}
 use Rattle.clock.specs.Sample.{readingOf, sampleValue}
 use Rattle.clock.specs.Announce.{announcement, announceOf}
-use Rattle.clock.specs.Says.{noTimer}
 use Rattle.books.specs.declared.Operation.{Operation}
-use Rattle.books.specs.Stamp.{stampOf}
+use Rattle.books.specs.Running.{stampOf}
 use Rattle.books.specs.Laws.{full}
 use Rattle.ledger.specs.declared.Ledgered.{Ledgered}
 use Rattle.ledger.specs.declared.ThreadReport.{ThreadReport}
-use Rattle.ledger.specs.Operate.{freshOf, recordOf, usageOf, operateOf, reportValue}
-use Rattle.ledger.specs.Says.{answerSays}
+use Rattle.ledger.specs.Operate.{operateOf}
+use Rattle.ledger.specs.Records.{freshLedger, threadRecord, concernedRecord, reportValue, answerSays}
 use Rattle.trace.specs.declared.Decoded.{Decoded}
 use Rattle.trace.specs.declared.Decoded.the-variants as D
 use Rattle.table.specs.declared.Core.{Core}
@@ -31,7 +30,7 @@ use Rattle.table.specs.declared.tasks.Task.{Task}
 use Rattle.table.specs.declared.tasks.Task.the-variants as T
 use Rattle.table.specs.declared.tasks.Then.the-variants as W
 use Rattle.table.specs.Task.{taskOf, askedBy}
-use Rattle.table.specs.Table.{malformed, table}
+use Rattle.table.specs.Table.{malformed, table, afterTouch}
 use Rattle.table.specs.Says.{values, sampleTells, announcementTells}
 use Rattle.machine.specs.declared.Machine.{Machine}
 use Rattle.machine.specs.declared.Stepped.{Stepped}
@@ -49,7 +48,7 @@ announceRows (A.Refused why) = (true, Why.NotAnnounced why) ∷ []
 
 -- sum or window count won't fit
 abbrev pub fullRow : Machine → Operation → Gaps → Row Reason
-fullRow m op g = (full (m .ledger .books) (usageOf (m .ledger) op) (stampOf (readingOf (m .timer) g)) op, Why.WontFit)
+fullRow m op g = (full (m .ledger .books) (concernedRecord (m .ledger) op) (stampOf (readingOf (m .timer) g)) op, Why.WontFit)
 
 -- the last two rows of the table
 unfoldable pub lastRows : Machine → Task → List (Row Reason)
@@ -71,19 +70,6 @@ recordRows m (D.Refused why) = (true, Why.BadRecord) ∷ []
 -- and the malformed state before it
 abbrev pub rowsOf : Machine → Decoded → List (Row Reason)
 rowsOf m d = (malformed (coreOf m) (slotsOf m), Why.Malformed) ∷ recordRows m d
-
--- the table's last column: a sum or window count that won't fit leaves the ledger as it was, and the sample is kept; every other refusal leaves all
-unfoldable pub afterTouch : Reason → Bool
-afterTouch Why.Malformed = false
-afterTouch Why.BadRecord = false
-afterTouch Why.NotSetUp = false
-afterTouch Why.SecondSetup = false
-afterTouch Why.NoThread = false
-afterTouch Why.Running = false
-afterTouch Why.AnnounceFirst = false
-afterTouch Why.CyclesAbove = false
-afterTouch (Why.NotAnnounced leafs) = false
-afterTouch Why.WontFit = true
 
 abbrev pub withTimer : Machine → Timer → Machine
 withTimer m timer = record { ready = m .ready; timer = timer; ledger = m .ledger }
@@ -110,24 +96,24 @@ doneBy m (T.Run p) = answers (values 0 0) (withTimer m (record { counter = runN 
 doneBy m (T.Sample g W.Tell) = answers (sampleTells (sampleValue (m .timer) g)) (withTimer m (sampleValue (m .timer) g .timer))
 doneBy m (T.Sample g (W.Operate op)) = afterOperation m g (operateOf (m .ledger) (sampleValue (m .timer) g .reading) op)
 doneBy m T.Announce = answers (announcementTells (announcement (m .timer))) (withTimer m (announcement (m .timer) .timer))
-doneBy m (T.Report i) = answers (reportTells (reportValue (recordOf (m .ledger) i))) m
-doneBy m (T.Setup s) = answers (values 0 0) (record { ready = true; timer = setup (s .period) (s .tick); ledger = freshOf (slotsOf m) })
+doneBy m (T.Report i) = answers (reportTells (reportValue (threadRecord (m .ledger) i))) m
+doneBy m (T.Setup s) = answers (values 0 0) (record { ready = true; timer = setup (s .period) (s .tick); ledger = freshLedger (slotsOf m) })
 
 -- of bytes that are no record nothing, since none passes the table
 unfoldable pub acceptedBy : Machine → Decoded → Done
 acceptedBy m (D.Accepted r) = doneBy m (taskOf r)
 acceptedBy m (D.Refused why) = answers (values 0 0) m
 
-abbrev pub accepted : Done → Stepped
-accepted done = record { outcome = O.Accepted (done .values); machine = done .machine }
+abbrev pub steppedTo : Done → Stepped
+steppedTo done = record { outcome = O.Accepted (done .values); machine = done .machine }
 
-abbrev pub refused : Machine → Done → Reason → Stepped
-refused m done why = record { outcome = O.Refused why; machine = cond (afterTouch why) (withTimer m (done .machine .timer)) m }
+abbrev pub turnedAway : Machine → Done → Reason → Stepped
+turnedAway m done why = record { outcome = O.Refused why; machine = cond (afterTouch why) (withTimer m (done .machine .timer)) m }
 
 -- 01's table: the first row that holds turns the record away, and where none does it is accepted
 unfoldable pub stepOf : Machine → Decoded → Stepped
-stepOf m d = inOrder (rowsOf m d) (refused m (acceptedBy m d)) (accepted (acceptedBy m d))
+stepOf m d = inOrder (rowsOf m d) (turnedAway m (acceptedBy m d)) (steppedTo (acceptedBy m d))
 
 -- a machine that is not set up
 abbrev pub freshMachine : ℕ → Machine
-freshMachine slots = record { ready = false; timer = noTimer; ledger = freshOf slots }
+freshMachine slots = record { ready = false; timer = setup 0 0; ledger = freshLedger slots }

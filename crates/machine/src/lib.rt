@@ -2,8 +2,6 @@
 ghost use mathlib.Core.Path.{_≡_};
 ghost use Rattle.machine.specs.Step.{coreOf, withTimer, reportTells, stepOf, freshMachine};
 ghost use Rattle.table.specs.declared.Outcome.the-variants as O;
-use changes::Change;
-use changes::change_of;
 use clock::Clock;
 use clock::Timer;
 use counter::Counter;
@@ -15,6 +13,8 @@ use table::Core;
 use table::Outcome;
 use table::Reason;
 use table::Values;
+use table::changes::Change;
+use table::changes::change_of;
 use table::malformed;
 use trace::Decoded;
 use units::Cycles;

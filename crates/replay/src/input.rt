@@ -1,5 +1,5 @@
 // A trace read from a descriptor into one array.
-ghost use Rattle.replay.specs.Within.{Within};
+ghost use Rattle.replay.specs.Within.{ReadsWithin};
 
 // One byte more than a trace may have: what comes after it can't change the text.
 pub const MOST: usize = transcript::MOST_BYTES + 1;
@@ -12,7 +12,7 @@ pub enum Input {
 
 // A read may bring less than there is room for, as from a pipe; only one that brings nothing is the end.
 pub(crate) fn read_trace(fd: i32, trace: &mut [u8]) -> Input
-    ensures { λ r. ⌜ Within (now (trace .exit)) r ⌝ }
+    ensures { λ r. ⌜ ReadsWithin (now (trace .exit)) r ⌝ }
 {
     let mut done: usize = 0;
     while done < trace.len() {

@@ -1,15 +1,17 @@
 -- Each outcome of each timer leaf, from the facts that bring it about.
 use mathlib.Core.Path.{_≡_, ap}
-use mathlib.Core.Bool.{Bool}
+use mathlib.Core.Bool.{Bool, cond, _||_}
 use Prim.Native.Nat.{ℕ, _+_, _-_, _*_, _/_, _≤_, _<_}
 use native.Mathlib.Nat.{mul-zero}
 use native.Mathlib.Omega.{arith}
+use lib.Dec.{ltb}
 use borrow.Author.Tests.{eq-eqb, ne-eqb, lt-ltb, le-ltb, le-leb, lt-leb}
 use Rattle.error.specs.declared.Refusal.the-variants.{Invalid, Overflow}
 use Rattle.error.specs.Numbers.{max32, max64}
 use Rattle.units.specs.declared.Cycles.{Cycles}
 use Rattle.units.specs.declared.Ticks.{Ticks}
-use Rattle.systick.specs.Leaves.{elapsedCycles, difference, cyclesToTicks, ticksToCycles, maxTicks, maxLoad, mostTicks, elapsedDecide, elapsedValue, wrapOf, overflowAfter, announceDecide, announceValue, dticksOf}
+use Rattle.systick.specs.Leaves.{elapsedCycles, difference, cyclesToTicks, ticksToCycles, maxTicks, maxLoad, mostTicks, elapsedDecide, announceDecide}
+use Rattle.systick.specs.Decisions.{elapsedValue, announceValue, dticksOf}
 use Rattle.systick.specs.declared.ElapsedCycles.the-variants as E
 use Rattle.systick.specs.declared.CyclesToTicks.the-variants as T
 use Rattle.systick.specs.declared.TicksToCycles.the-variants as C
@@ -98,9 +100,9 @@ module _ (val1 val2 : ℕ) (flag : Bool) (load overflow : ℕ) where
       (new : ℕ) →
       val2 ≤ load →
       load - val2 + overflow + load ≤ max32 →
-      new ≡ overflowAfter (wrapOf val1 val2 flag) load overflow →
+      new ≡ cond (flag || ltb val1 val2) (overflow + load) overflow →
       elapsedDecide val1 val2 flag load overflow ≡
-      D.Accepted (record { «wrap_detected» = wrapOf val1 val2 flag; «new_overflow_cyc» = new; elapsed = load - val2 + new })
+      D.Accepted (record { «wrap_detected» = flag || ltb val1 val2; «new_overflow_cyc» = new; elapsed = load - val2 + new })
   decided-with new a h e = rw e (decided a h)
 
 module _ (count announced : Cycles) (overflow tick : ℕ) where

@@ -8,7 +8,8 @@ use Rattle.error.specs.Numbers.{max32}
 use Rattle.error.proofs.Ordered.{by-outcome}
 use Rattle.systick.proofs.Bounds.{quotient-within}
 use Rattle.units.specs.declared.Cycles.{Cycles}
-use Rattle.systick.specs.Leaves.{maxTicks, maxLoad, mostTicks, tickTests, announceDecide, announceTests, announceValue}
+use Rattle.systick.specs.Leaves.{maxTicks, maxLoad, mostTicks, tickTests, announceDecide}
+use Rattle.systick.specs.Decisions.{announceTests, announceValue}
 use Rattle.systick.specs.Says.{maxTicksSays, announceDecideSays}
 use Rattle.systick.specs.declared.MaxTicks.{MaxTicks}
 use Rattle.systick.specs.declared.MaxTicks.the-variants as M

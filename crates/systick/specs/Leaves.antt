@@ -1,6 +1,6 @@
--- The timer's leaves, by 01's "Leaf formulas": each leaf's tests in 01's order, then its answer.
+-- Inside: the timer's leaves as their contracts cite them, tests in 01's order and then the answer. `LeavesExact` (crates/demands/specs/Leaves.antt) writes each out.
 use Prim.Native.Nat.{ℕ, _+_, _-_, _*_, _/_}
-use mathlib.Core.Bool.{Bool, cond, _||_}
+use mathlib.Core.Bool.{Bool, cond}
 use mathlib.Core.List.{List, [], _∷_}
 use lib.Dec.{ltb, leb, eqb}
 use Rattle.error.specs.declared.Refusal.{Refusal}
@@ -17,12 +17,11 @@ use Rattle.systick.specs.declared.TicksToCycles.{TicksToCycles}
 use Rattle.systick.specs.declared.TicksToCycles.the-variants as C
 use Rattle.systick.specs.declared.MaxTicks.{MaxTicks}
 use Rattle.systick.specs.declared.MaxTicks.the-variants as M
-use Rattle.systick.specs.declared.ElapsedDecideResult.{ElapsedDecideResult}
 use Rattle.systick.specs.declared.ElapsedDecide.{ElapsedDecide}
 use Rattle.systick.specs.declared.ElapsedDecide.the-variants as D
-use Rattle.systick.specs.declared.AnnounceDecideResult.{AnnounceDecideResult}
 use Rattle.systick.specs.declared.AnnounceDecide.{AnnounceDecide}
 use Rattle.systick.specs.declared.AnnounceDecide.the-variants as A
+use Rattle.systick.specs.Decisions.{announceTests, announceValue, elapsedValue}
 
 -- Timer difference: last - current if last >= current, else last + load - current.
 abbrev pub difference : ℕ → ℕ → ℕ → ℕ
@@ -63,20 +62,6 @@ mostTicks tick = cond (eqb (maxLoad / tick) 0) 0 (maxLoad / tick - 1)
 unfoldable pub maxTicks : ℕ → MaxTicks
 maxTicks tick = inOrder (tickTests tick) M.Refused (M.Accepted (record { 0 = mostTicks tick }))
 
--- wrap = flag or val1 < val2; new overflow = overflow, plus load on a wrap; elapsed = load - val2 + new overflow.
-abbrev pub wrapOf : ℕ → ℕ → Bool → Bool
-wrapOf val1 val2 flag = flag || ltb val1 val2
-
-abbrev pub overflowAfter : Bool → ℕ → ℕ → ℕ
-overflowAfter wrap load overflow = cond wrap (overflow + load) overflow
-
-abbrev pub elapsedValue : ℕ → ℕ → Bool → ℕ → ℕ → ElapsedDecideResult
-elapsedValue val1 val2 flag load overflow = record {
-  «wrap_detected» = wrapOf val1 val2 flag;
-  «new_overflow_cyc» = overflowAfter (wrapOf val1 val2 flag) load overflow;
-  elapsed = load - val2 + overflowAfter (wrapOf val1 val2 flag) load overflow;
-}
-
 -- In order: val2 > load, -22; load - val2 + overflow + load above 2^32 - 1, -139, wrap or not.
 abbrev pub decideTests : ℕ → ℕ → ℕ → List (Row Refusal)
 decideTests val2 load overflow =
@@ -85,27 +70,6 @@ decideTests val2 load overflow =
 unfoldable pub elapsedDecide : ℕ → ℕ → Bool → ℕ → ℕ → ElapsedDecide
 elapsedDecide val1 val2 flag load overflow =
     inOrder (decideTests val2 load overflow) D.Refused (D.Accepted (elapsedValue val1 val2 flag load overflow))
-
--- dticks = (new count - announced) / tick rounded down, where new count = count + overflow.
-abbrev pub dticksOf : Cycles → Cycles → ℕ → ℕ → ℕ
-dticksOf count announced overflow tick = (count .0 + overflow - announced .0) / tick
-
--- new announced = announced + dticks x tick.
-abbrev pub announceValue : Cycles → Cycles → ℕ → ℕ → AnnounceDecideResult
-announceValue count announced overflow tick = record {
-  dticks = record { 0 = dticksOf count announced overflow tick };
-  «new_cycle_count» = record { 0 = count .0 + overflow };
-  «new_announced_cycles» = record { 0 = announced .0 + dticksOf count announced overflow tick * tick };
-}
-
--- In order: tick 0, -22; new count above 2^64 - 1, -139; announced above new count, -22; dticks above 2^32 - 1, -139.
-abbrev pub announceTests : Cycles → Cycles → ℕ → ℕ → List (Row Refusal)
-announceTests count announced overflow tick =
-    (eqb tick 0, Invalid) ∷
-    (ltb max64 (count .0 + overflow), Overflow) ∷
-    (ltb (count .0 + overflow) (announced .0), Invalid) ∷
-    (ltb max32 (dticksOf count announced overflow tick), Overflow) ∷
-    []
 
 unfoldable pub announceDecide : Cycles → Cycles → ℕ → ℕ → AnnounceDecide
 announceDecide count announced overflow tick =

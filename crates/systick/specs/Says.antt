@@ -1,4 +1,4 @@
--- What each answer of a timer leaf says: 01's number and values for each of its cases.
+-- Inside: what each answer of a timer leaf says, case by case, as the readers promise it. `Readers` (crates/demands/specs/Readers.antt) says it of all.
 use Prim.Native.Nat.{ℕ}
 use mathlib.Core.Bool.{false}
 use Rattle.error.specs.declared.Refusal.{Refusal}

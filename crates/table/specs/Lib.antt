@@ -1,3 +1,4 @@
 pub mod Task
 pub mod Table
 pub mod Says
+pub mod Change

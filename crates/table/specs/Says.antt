@@ -1,4 +1,4 @@
--- What a step's outcome says: 01's number, and the two values of the record's line.
+-- Believed: what a step's outcome says. 01's number, and the two values of the record's line.
 use Prim.Native.Nat.{ℕ}
 use mathlib.Core.Bool.{cond}
 use Rattle.error.specs.Said.{Said, accepted, refused}
@@ -21,5 +21,5 @@ announcementTells a = values (a .dticks .0) (a .timer .clock .announced .0)
 
 -- refused: 0 0
 unfoldable pub outcomeSays : Outcome → Said Values
-outcomeSays (O.Accepted values) = accepted values
+outcomeSays (O.Accepted told) = accepted told
 outcomeSays (O.Refused why) = refused (refusalOf why) (values 0 0)

@@ -1,12 +1,14 @@
 // 01's table of refusals: the tests that are made before the counter is touched, in its order, and what a step answers.
 ghost use mathlib.Core.Path.{_≡_};
-ghost use Rattle.table.specs.Table.{refusalOf, malformed, testedOf};
+ghost use Rattle.table.specs.Table.{refusalOf, malformed};
+ghost use Rattle.table.specs.Change.{testedOf};
 ghost use Rattle.table.specs.Says.{outcomeSays};
 use books::Books;
 use clock::Timer;
 use error::Refusal;
 use tasks::Asked;
 
+pub mod changes;
 pub mod tasks;
 
 // A machine without its thread records: what a record changes is worked out at the same cost for any number of them.
@@ -106,7 +108,7 @@ pub fn malformed(core: Core, slots: usize) -> bool
 }
 
 // 01's table, row by row: the first test that holds turns the record away, and nothing has been touched.
-pub fn tested(core: Core, asked: Asked) -> Verdict
+fn tested(core: Core, asked: Asked) -> Verdict
     ensures { λ r. ⌜ r ≡ testedOf core asked ⌝ }
 {
     let timer = core.timer;

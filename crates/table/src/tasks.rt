@@ -1,7 +1,9 @@
 // What a record asks of the machine: each kind that changes the ledger is a sample and then one operation.
 ghost use mathlib.Core.Path.{_≡_};
+ghost use Rattle.books.specs.Running.{nothingBooked};
 ghost use Rattle.table.specs.declared.tasks.Task.the-variants as T;
-ghost use Rattle.table.specs.Task.{taskOf, asksNothing, asksCycles, asksSample, asksOperation, asksReport, asksSetup, askedBy};
+ghost use Rattle.table.specs.declared.tasks.Then.the-variants as W;
+ghost use Rattle.table.specs.Task.{taskOf, askedBy};
 use books::Books;
 use books::Operation;
 use clock::Gaps;
@@ -62,8 +64,9 @@ pub fn task_of(decoded: Record) -> Task
     }
 }
 
+// Where the books and the table do not matter, none runs and there is no slot.
 pub fn asks_nothing() -> Asked
-    ensures { λ r. ⌜ r ≡ asksNothing ⌝ }
+    ensures { λ r. ⌜ r ≡ askedBy nothingBooked 0 T.Announce ⌝ }
 {
     Asked {
         setup: false,
@@ -76,7 +79,7 @@ pub fn asks_nothing() -> Asked
 }
 
 pub fn asks_cycles(cycles: u64) -> Asked
-    ensures { λ r. ⌜ r ≡ asksCycles cycles ⌝ }
+    ensures { λ r. ⌜ r ≡ askedBy nothingBooked 0 (T.Run cycles) ⌝ }
 {
     let mut asked = asks_nothing();
     asked.cycles = cycles;
@@ -84,7 +87,7 @@ pub fn asks_cycles(cycles: u64) -> Asked
 }
 
 fn asks_sample(gaps: Gaps) -> Asked
-    ensures { λ r. ⌜ r ≡ asksSample gaps ⌝ }
+    ensures { λ r. ⌜ r ≡ askedBy nothingBooked 0 (T.Sample gaps W.Tell) ⌝ }
 {
     let mut asked = asks_cycles(gaps.whole());
     asked.samples = true;
@@ -92,7 +95,7 @@ fn asks_sample(gaps: Gaps) -> Asked
 }
 
 fn asks_operation(books: Books, slots: usize, operation: Operation, gaps: Gaps) -> Asked
-    ensures { λ r. ⌜ r ≡ asksOperation books slots operation gaps ⌝ }
+    ensures { λ r. ⌜ r ≡ askedBy books slots (T.Sample gaps (W.Operate operation)) ⌝ }
 {
     let past = books::past(operation, slots);
     let busy = books::busy(books, operation);
@@ -112,7 +115,7 @@ pub fn asks_then(books: Books, slots: usize, gaps: Gaps, then: Then) -> Asked
 }
 
 pub fn asks_report(slots: usize, thread: u32) -> Asked
-    ensures { λ r. ⌜ r ≡ asksReport slots thread ⌝ }
+    ensures { λ r. ⌜ r ≡ askedBy nothingBooked slots (T.Report thread) ⌝ }
 {
     let past = books::no_thread(slots, thread);
     let mut asked = asks_nothing();
@@ -122,7 +125,7 @@ pub fn asks_report(slots: usize, thread: u32) -> Asked
 
 // No bytes decode to a bad setup, but one can be handed in.
 pub fn asks_setup(setup: Setup) -> Asked
-    ensures { λ r. ⌜ r ≡ asksSetup setup ⌝ }
+    ensures { λ r. ⌜ r ≡ askedBy nothingBooked 0 (T.Setup setup) ⌝ }
 {
     let bad = clock::bad_setup(setup.period, setup.tick);
     let mut asked = asks_nothing();

@@ -1,4 +1,4 @@
--- Flags and thread records as C hands them over: plain numbers.
+-- Believed: flags and thread records as C hands them over, plain numbers.
 use Prim.Native.Nat.{ℕ}
 use mathlib.Core.Bool.{Bool, cond, not}
 use lib.Dec.{eqb}

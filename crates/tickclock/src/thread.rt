@@ -1,8 +1,8 @@
 // A thread record's leaves for C.
 ghost use mathlib.Core.Path.{_≡_};
 ghost use Rattle.error.specs.Numbers.{ok};
-ghost use Rattle.usage.specs.Record.{newIdle};
-ghost use Rattle.usage.specs.Leaves.{enabled, disabled, accumulated, averageCycles, elapsedCycles, sysEnableDecide, sysDisableDecide, startDecide, stopDecide};
+ghost use Rattle.usage.specs.Formulas.{newIdle, averageCycles, elapsedStamps};
+ghost use Rattle.usage.specs.Leaves.{enabled, disabled, accumulated, sysEnableDecide, sysDisableDecide, startDecide, stopDecide};
 ghost use Rattle.usage.specs.Says.{changedSays, applies, recordsStart, accumulates};
 ghost use Rattle.tickclock.specs.Plain.{isSet, flagOf, usageOf};
 use crate::plain;
@@ -182,7 +182,7 @@ pub extern "C" fn usage_elapsed_cycles_number(now: u32, usage0: u32) -> i32
 
 #[no_mangle]
 pub extern "C" fn usage_elapsed_cycles_cycles(now: u32, usage0: u32) -> u32
-    ensures { λ r. ⌜ r ≡ elapsedCycles now usage0 ⌝ }
+    ensures { λ r. ⌜ r ≡ elapsedStamps now usage0 ⌝ }
 {
     usage::elapsed_cycles(now, usage0)
 }

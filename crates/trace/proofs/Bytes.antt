@@ -1,27 +1,33 @@
 -- Decoding undone: fields and records, bytes and fields.
 use Prim.Native.Nat.{ℕ, zero, suc, _+_, _*_, _/_, _%_, _^_, _≤_, _<_}
 use mathlib.Core.Path.{_≡_, refl, sym, ap, _∙_}
-use mathlib.Core.Bool.{Bool, true, false, not, _&&_, _||_}
+use mathlib.Core.Bool.{Bool, true, false, cond, not, _&&_, _||_}
 use mathlib.Core.List.{List, _∷_}
 use native.Mathlib.Omega.{arith}
-use lib.ListN.{getD}
-use lib.Dec.{eqb}
+use lib.ListN.{length, getD}
+use lib.Dec.{ltb, eqb}
 use borrow.Author.Tests.{eqb-true, ltb-false}
 use Rattle.error.proofs.Tests.{clash}
 use Rattle.error.proofs.Ordered.{by-outcome}
+use Rattle.error.specs.declared.Refusal.{Refusal}
+use Rattle.error.specs.declared.Refusal.the-variants.{Invalid}
 use Rattle.clock.specs.Timer.{badSetup}
 use Rattle.trace.specs.declared.Fields.{Fields}
 use Rattle.trace.specs.declared.Record.{Record}
 use Rattle.trace.specs.declared.Record.the-variants as K
 use Rattle.trace.specs.declared.Decoded.{Decoded}
 use Rattle.trace.specs.declared.Decoded.the-variants as D
-use Rattle.trace.specs.Decode.{wordOf, wordAt, fieldsAt, samples, usesThread, unusedSet, recordOf, decodeTests, decodeFields}
-use Rattle.trace.specs.Bytes.{fieldsOf, Good, Fit, wordThen, encoded, fourThen, sixteenAt, Decodes}
+use Rattle.trace.specs.Decode.{wordOf, wordAt, fieldsAt, samplesFirst, usesThread, unusedSet, recordOf, decodeTests, decodeFields, decodeOf}
+use Rattle.trace.specs.Bytes.{fieldsOf, Fit, wordThen, encoded, fourThen, sixteenAt, Decodes}
 use Rattle.trace.proofs.Outcomes.{whole}
 
 -- a record's fields decode to it
-back : (r : Record) → Good r → decodeFields (fieldsOf r) ≡ D.Accepted r
-unfolding decodeFields unusedSet samples usesThread recordOf
+-- where a setup is good
+abbrev Good : Fields → Type 0
+Good f = f .kind ≡ 9 → badSetup (f .p) (f .q) ≡ false
+
+back : (r : Record) → Good (fieldsOf r) → decodeFields (fieldsOf r) ≡ D.Accepted r
+unfolding decodeFields unusedSet samplesFirst usesThread recordOf
 back (K.Run p) good = refl
 back (K.Sample g) good = refl
 back K.Announce good = refl
@@ -31,7 +37,7 @@ back (K.Stop g) good = refl
 back (K.Enable i g) good = refl
 back (K.Disable i g) good = refl
 back (K.Report i) good = refl
-back (K.Setup s) good = simp good
+back (K.Setup s) good = simp (good refl)
 
 -- what is not used is 0
 none-of : (used : Bool) (n : ℕ) → used ≡ false → not used && not (eqb n 0) ≡ false → n ≡ 0
@@ -53,9 +59,9 @@ not-false false e = clash (cc)
 record Unused (f : Fields) : Type 0 where
   spare : f .spare ≡ 0
   thread : usesThread (f .kind) ≡ false → f .thread ≡ 0
-  p : samples (f .kind) || eqb (f .kind) 9 || eqb (f .kind) 0 ≡ false → f .p ≡ 0
-  q : samples (f .kind) || eqb (f .kind) 9 ≡ false → f .q ≡ 0
-  r : samples (f .kind) ≡ false → f .r ≡ 0
+  p : samplesFirst (f .kind) || eqb (f .kind) 9 || eqb (f .kind) 0 ≡ false → f .p ≡ 0
+  q : samplesFirst (f .kind) || eqb (f .kind) 9 ≡ false → f .q ≡ 0
+  r : samplesFirst (f .kind) ≡ false → f .r ≡ 0
 
 unused : (f : Fields) → unusedSet f ≡ false → Unused f
 unfolding unusedSet
@@ -77,7 +83,7 @@ abbrev make : ℕ → ℕ → ℕ → ℕ → ℕ → ℕ → Fields
 make k t z p q r = record { kind = k; thread = t; spare = z; p = p; q = q; r = r }
 
 forth : (k t z p q r : ℕ) → k ≤ 9 → Unused (make k t z p q r) → make k t z p q r ≡ fieldsOf (recordOf (make k t z p q r))
-unfolding recordOf samples usesThread
+unfolding recordOf samplesFirst usesThread
 forth zero t z p q r h u = rw (u .spare, u .thread refl, u .q refl, u .r refl)
 forth (suc zero) t z p q r h u = rw (u .spare, u .thread refl)
 forth (suc (suc zero)) t z p q r h u = rw (u .spare, u .thread refl, u .p refl, u .q refl, u .r refl)
@@ -91,29 +97,18 @@ forth (suc (suc (suc (suc (suc (suc (suc (suc (suc zero))))))))) t z p q r h u =
 forth (suc (suc (suc (suc (suc (suc (suc (suc (suc (suc k)))))))))) t z p q r h u = absurd (omega arith)
 
 -- and a setup that was not turned away is good
-good-of : (k t z p q r : ℕ) → k ≤ 9 → eqb k 9 && badSetup p q ≡ false → Good (recordOf (make k t z p q r))
-unfolding recordOf
-good-of zero t z p q r h b = tt
-good-of (suc zero) t z p q r h b = tt
-good-of (suc (suc zero)) t z p q r h b = tt
-good-of (suc (suc (suc zero))) t z p q r h b = tt
-good-of (suc (suc (suc (suc zero)))) t z p q r h b = tt
-good-of (suc (suc (suc (suc (suc zero))))) t z p q r h b = tt
-good-of (suc (suc (suc (suc (suc (suc zero)))))) t z p q r h b = tt
-good-of (suc (suc (suc (suc (suc (suc (suc zero))))))) t z p q r h b = tt
-good-of (suc (suc (suc (suc (suc (suc (suc (suc zero)))))))) t z p q r h b = tt
-good-of (suc (suc (suc (suc (suc (suc (suc (suc (suc zero))))))))) t z p q r h b = b
-good-of (suc (suc (suc (suc (suc (suc (suc (suc (suc (suc k)))))))))) t z p q r h b = absurd (omega arith)
+good-of : (f : Fields) → eqb (f .kind) 9 && badSetup (f .p) (f .q) ≡ false → Good f
+good-of f b nine = rw nine at b
 
-accepted : (f : Fields) (r : Record) → decodeFields f ≡ D.Accepted r → (f ≡ fieldsOf r) × Good r
+accepted : (f : Fields) (r : Record) → decodeFields f ≡ D.Accepted r → (f ≡ fieldsOf r) × Good f
 unfolding decodeFields
 accepted f r =
-    by-outcome D.Refused (D.Accepted (recordOf f)) (λ (o : Decoded). o ≡ D.Accepted r → (f ≡ fieldsOf r) × Good r) (decodeTests f)
+    by-outcome D.Refused (D.Accepted (recordOf f)) (λ (o : Decoded). o ≡ D.Accepted r → (f ≡ fieldsOf r) × Good f) (decodeTests f)
     (λ why q. clash (cc))
     (λ none q.
     let is : recordOf f ≡ r = cc in
     let known = ltb-false _ _ (none .0) in
-    rw (← is) (forth (f .kind) (f .thread) (f .spare) (f .p) (f .q) (f .r) known (unused f (none .1 .0)), good-of (f .kind) (f .thread) (f .spare) (f .p) (f .q) (f .r) known (none .1 .1 .0)))
+    (rw (← is) (forth (f .kind) (f .thread) (f .spare) (f .p) (f .q) (f .r) known (unused f (none .1 .0))), good-of f (none .1 .1 .0)))
 
 no-spare : (r : Record) → fieldsOf r .spare ≡ 0
 no-spare (K.Run p) = refl
@@ -164,9 +159,9 @@ module _ (s : List ℕ) (bytes : (i : ℕ) → getD s i 0 < 256) where
       spared : {a b : ℕ} (c d : ℕ) {rest rest′ : List ℕ} → c ≡ 0 → d ≡ 0 → rest ≡ rest′ → a ∷ b ∷ c ∷ d ∷ rest ≡ a ∷ b ∷ 0 ∷ 0 ∷ rest′
       spared c d p q e = cc
 
-  fits : (at : ℕ) (f : Fields) → fieldsAt s at ≡ f → Fit f
+  fits : (at : ℕ) (f : Fields) → fieldsAt s at ≡ f → Good f → Fit f
   unfolding fieldsAt
-  fits at f e = rw (← e) (record { thread = bytes (at + 1); p = word-fits (at + 4); q = word-fits (at + 8); r = word-fits (at + 12) })
+  fits at f e good = record { thread = rw (← e) (bytes (at + 1)); p = rw (← e) (word-fits (at + 4)); q = rw (← e) (word-fits (at + 8)); r = rw (← e) (word-fits (at + 12)); good = good }
 
 -- a number of 32 bits is what its bytes make
 word-back : (n a b c d : ℕ) → n < 2 ^ 32 → a ≡ n % 256 → b ≡ n / 256 % 256 → c ≡ n / 65536 % 256 → d ≡ n / 16777216 % 256 → wordOf a b c d ≡ n
@@ -194,10 +189,42 @@ decoded-back s at f fit z e = same f _ _ _ _ _ _ (byte 0) (byte 1) (zero-word _ 
     same : (f : Fields) (k t z p q r : ℕ) → k ≡ f .kind → t ≡ f .thread → z ≡ f .spare → p ≡ f .p → q ≡ f .q → r ≡ f .r → make k t z p q r ≡ f
     same f k t z p q r a b c d e g = rw (a, b, c, d, e, g) refl
 
+-- what decodes has its sixteen bytes
+room-of : (s : List ℕ) (at : ℕ) (r : Record) → decodeOf s at ≡ D.Accepted r → at + 16 ≤ length s
+unfolding decodeOf
+room-of s at r = by-test (ltb (length s) (at + 16)) refl
+  where
+    by-test : (t : Bool) → ltb (length s) (at + 16) ≡ t → cond t (D.Refused Invalid) (decodeFields (fieldsAt s at)) ≡ D.Accepted r → at + 16 ≤ length s
+    by-test true e q = clash (cc)
+    by-test false e q = ltb-false _ _ e
+
+-- every test has one reason
+refused-fields : (f : Fields) (why : Refusal) → decodeFields f ≡ D.Refused why → why ≡ Invalid
+unfolding decodeFields
+refused-fields f why = by-tests (ltb 9 (f .kind)) (unusedSet f) (eqb (f .kind) 9 && badSetup (f .p) (f .q))
+  where
+    by-tests : (a b c : Bool) → cond a (D.Refused Invalid) (cond b (D.Refused Invalid) (cond c (D.Refused Invalid) (D.Accepted (recordOf f)))) ≡ D.Refused why → why ≡ Invalid
+    by-tests true b c q = cc
+    by-tests false true c q = cc
+    by-tests false false true q = cc
+    by-tests false false false q = clash (cc)
+
+refused-at : (s : List ℕ) (at : ℕ) (why : Refusal) → decodeOf s at ≡ D.Refused why → why ≡ Invalid
+unfolding decodeOf
+refused-at s at why = by-test (ltb (length s) (at + 16))
+  where
+    by-test : (t : Bool) → cond t (D.Refused Invalid) (decodeFields (fieldsAt s at)) ≡ D.Refused why → why ≡ Invalid
+    by-test true q = cc
+    by-test false q = refused-fields (fieldsAt s at) why q
+
 pub decodes : Decodes
-decodes s at bytes room r = (
-  λ e.
-      let known = accepted (fieldsAt s at) r (whole s at room ∙ e) in
-      (known .1, fits s bytes at (fieldsOf r) (known .0), encodes s bytes at (fieldsOf r) (known .0) (no-spare r)),
-  λ h. sym (whole s at room) ∙ ap decodeFields (decoded-back s at (fieldsOf r) (h .1) (no-spare r) (h .2)) ∙ back r (h .0),
-)
+decodes = record {
+  record-is = λ s at bytes r. (
+    λ e.
+        let room = room-of s at r e in
+        let known = accepted (fieldsAt s at) r (whole s at room ∙ e) in
+        (room, fits s bytes at (fieldsOf r) (known .0) (rw (← known .0) (known .1)), encodes s bytes at (fieldsOf r) (known .0) (no-spare r)),
+    λ h. sym (whole s at (h .0)) ∙ ap decodeFields (decoded-back s at (fieldsOf r) (h .1) (no-spare r) (h .2)) ∙ back r (h .1 .good),
+  );
+  refused-is = refused-at;
+}

@@ -12,7 +12,7 @@ use Rattle.clock.specs.Timer.{badSetup}
 use Rattle.trace.specs.declared.Fields.{Fields}
 use Rattle.trace.specs.declared.Record.the-variants as K
 use Rattle.trace.specs.declared.Decoded.the-variants as D
-use Rattle.trace.specs.Decode.{fieldsAt, samples, usesThread, unusedSet, recordOf, decodeFields, decodeOf}
+use Rattle.trace.specs.Decode.{fieldsAt, samplesFirst, usesThread, unusedSet, recordOf, decodeFields, decodeOf}
 
 either-way : {A : Type 0} (test : Bool) (x : A) → cond test x x ≡ x
 either-way true x = refl
@@ -43,7 +43,7 @@ module _ (f : Fields) where
 
   -- a setup's tests, all in one
   pub setup : f .kind ≡ 9 → f .spare ≡ 0 → cond (not (eqb (f .thread) 0) || not (eqb (f .r) 0) || badSetup (f .p) (f .q)) (D.Refused Invalid) (D.Accepted (K.Setup (record { period = f .p; tick = f .q }))) ≡ decodeFields f
-  unfolding decodeFields unusedSet samples usesThread recordOf
+  unfolding decodeFields unusedSet samplesFirst usesThread recordOf
   setup kind clean = simp (kind, clean, or-false) (in-one (not (eqb (f .thread) 0) || not (eqb (f .r) 0)) (badSetup (f .p) (f .q)) _ _)
 
 module _ (s : List ℕ) (at : ℕ) where

@@ -1,10 +1,12 @@
--- The sixteen bytes of a record: what decodes is what they encode, and nothing else decodes to it.
+-- Believed: the sixteen bytes of a record. What decodes is what they encode, and nothing else decodes to it.
 use Prim.Native.Nat.{ℕ, _+_, _/_, _%_, _^_, _≤_, _<_}
 use mathlib.Core.Path.{_≡_}
 use mathlib.Core.Bool.{false}
 use mathlib.Core.List.{List, [], _∷_}
 use mathlib.Core.Logic.{_↔_}
 use lib.ListN.{length, getD}
+use Rattle.error.specs.declared.Refusal.{Refusal}
+use Rattle.error.specs.declared.Refusal.the-variants.{Invalid}
 use Rattle.clock.specs.Timer.{badSetup}
 use Rattle.trace.specs.declared.Fields.{Fields}
 use Rattle.trace.specs.declared.Record.{Record}
@@ -28,25 +30,13 @@ fieldsOf (K.Disable i g) = fields 7 i (g .p) (g .q) (g .r)
 fieldsOf (K.Report i) = fields 8 i 0 0 0
 fieldsOf (K.Setup s) = fields 9 0 (s .period) (s .tick) 0
 
--- a setup's period and tick are good
-abbrev pub Good : Record → Type 0
-Good (K.Setup s) = badSetup (s .period) (s .tick) ≡ false
-Good (K.Run p) = Unit {0}
-Good (K.Sample g) = Unit {0}
-Good K.Announce = Unit {0}
-Good (K.Start i g) = Unit {0}
-Good (K.Switch i g) = Unit {0}
-Good (K.Stop g) = Unit {0}
-Good (K.Enable i g) = Unit {0}
-Good (K.Disable i g) = Unit {0}
-Good (K.Report i) = Unit {0}
-
--- numbers that bytes can hold
+-- numbers that bytes can hold; of a setup, kind 9, a good period and tick
 pub record Fit (f : Fields) : Type 0 where
   pub thread : f .thread < 256
   pub p : f .p < 2 ^ 32
   pub q : f .q < 2 ^ 32
   pub r : f .r < 2 ^ 32
+  pub good : f .kind ≡ 9 → badSetup (f .p) (f .q) ≡ false
 
 -- four bytes of a number, the low one first, and then more
 abbrev pub wordThen : ℕ → List ℕ → List ℕ
@@ -63,7 +53,7 @@ fourThen s at rest = getD s at 0 ∷ getD s (at + 1) 0 ∷ getD s (at + 2) 0 ∷
 abbrev pub sixteenAt : List ℕ → ℕ → List ℕ
 sixteenAt s at = fourThen s at (fourThen s (at + 4) (fourThen s (at + 8) (fourThen s (at + 12) [])))
 
-abbrev pub Decodes : Type 0
-Decodes =
-    (s : List ℕ) (at : ℕ) → ((i : ℕ) → getD s i 0 < 256) → at + 16 ≤ length s → (r : Record) →
-    (decodeOf s at ≡ D.Accepted r) ↔ (Good r × Fit (fieldsOf r) × (sixteenAt s at ≡ encoded (fieldsOf r)))
+-- bytes are a record if and only if they are sixteen and its own; whatever is turned away meets the first row
+pub record Decodes : Type 0 where
+  pub record-is : (s : List ℕ) (at : ℕ) → ((i : ℕ) → getD s i 0 < 256) → (r : Record) → (decodeOf s at ≡ D.Accepted r) ↔ ((at + 16 ≤ length s) × Fit (fieldsOf r) × (sixteenAt s at ≡ encoded (fieldsOf r)))
+  pub refused-is : (s : List ℕ) (at : ℕ) (why : Refusal) → decodeOf s at ≡ D.Refused why → why ≡ Invalid

@@ -1,4 +1,4 @@
--- 01's trace records: sixteen bytes, what each kind uses, and what is turned away.
+-- Inside: sixteen bytes taken apart as the code does it, what each kind uses, and what is turned away. `Decodes` (Bytes.antt) says what comes of it.
 use Prim.Native.Nat.{ℕ, _+_, _*_}
 use mathlib.Core.Bool.{Bool, cond, not, _&&_, _||_}
 use mathlib.Core.List.{List, [], _∷_}
@@ -36,8 +36,8 @@ fieldsAt s at = record {
 }
 
 -- kinds 1 and 3 to 7 sample first, with gaps p, q, r
-unfoldable pub samples : ℕ → Bool
-samples kind = eqb kind 1 || (leb 3 kind && leb kind 7)
+unfoldable pub samplesFirst : ℕ → Bool
+samplesFirst kind = eqb kind 1 || (leb 3 kind && leb kind 7)
 
 -- kinds 3, 4, 6, 7, 8 use the thread
 unfoldable pub usesThread : ℕ → Bool
@@ -48,9 +48,9 @@ unfoldable pub unusedSet : Fields → Bool
 unusedSet f =
     not (eqb (f .spare) 0) ||
     (not (usesThread (f .kind)) && not (eqb (f .thread) 0)) ||
-    (not (samples (f .kind) || eqb (f .kind) 9 || eqb (f .kind) 0) && not (eqb (f .p) 0)) ||
-    (not (samples (f .kind) || eqb (f .kind) 9) && not (eqb (f .q) 0)) ||
-    (not (samples (f .kind)) && not (eqb (f .r) 0))
+    (not (samplesFirst (f .kind) || eqb (f .kind) 9 || eqb (f .kind) 0) && not (eqb (f .p) 0)) ||
+    (not (samplesFirst (f .kind) || eqb (f .kind) 9) && not (eqb (f .q) 0)) ||
+    (not (samplesFirst (f .kind)) && not (eqb (f .r) 0))
 
 abbrev pub gapsOf : Fields → Gaps
 gapsOf f = record { p = f .p; q = f .q; r = f .r }

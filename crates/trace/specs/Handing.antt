@@ -1,10 +1,9 @@
--- A trace's records handed out one by one: what stands at a place, the place after it, and how much is left.
-use Prim.Native.Nat.{ℕ, zero, suc, _+_, _-_, _/_, _%_}
+-- Believed: a trace's records handed out one by one. What stands at a place, the place after it, and how much is left.
+use Prim.Native.Nat.{ℕ, _+_, _-_, _/_, _%_}
 use mathlib.Core.Bool.{cond}
-use mathlib.Core.List.{List, [], _∷_}
+use mathlib.Core.List.{List}
 use lib.ListN.{length}
 use lib.Dec.{ltb, eqb}
-use Rattle.trace.specs.declared.Decoded.{Decoded}
 use Rattle.trace.specs.declared.reader.Item.{Item}
 use Rattle.trace.specs.declared.reader.Item.the-variants as I
 use Rattle.trace.specs.Decode.{decodeOf}
@@ -22,12 +21,3 @@ itemAt s at = cond (eqb (recordsLeft s at) 0) I.End (I.Record (decodeOf s at))
 
 unfoldable pub placeAfter : List ℕ → ℕ → ℕ
 placeAfter s at = cond (eqb (recordsLeft s at) 0) at (at + 16)
-
--- the first n items from a place on, up to the end
-abbrev pub handedBy : Item → List Decoded → List Decoded
-handedBy (I.Record d) rest = d ∷ rest
-handedBy I.End rest = []
-
-unfoldable pub handedFrom : ℕ → List ℕ → ℕ → List Decoded
-handedFrom zero s at = []
-handedFrom (suc n) s at = handedBy (itemAt s at) (handedFrom n s (placeAfter s at))

@@ -15,7 +15,7 @@ use Rattle.error.specs.Numbers.{max64}
 use Rattle.error.proofs.Tests.{clash}
 use Rattle.units.specs.declared.Cycles.{Cycles}
 use Rattle.usage.specs.declared.ThreadUsage.{ThreadUsage}
-use Rattle.usage.specs.Record.{newIdle}
+use Rattle.usage.specs.Formulas.{newIdle}
 use Rattle.counter.specs.declared.Counter.{Counter}
 use Rattle.clock.specs.declared.Timer.{Timer}
 use Rattle.books.specs.declared.Books.{Books}
@@ -23,7 +23,8 @@ use Rattle.books.specs.declared.Operation.{Operation}
 use Rattle.books.specs.declared.Entry.{Entry}
 use Rattle.books.specs.declared.Entered.{Entered}
 use Rattle.books.specs.declared.Entered.the-variants as E
-use Rattle.books.specs.Enter.{concerned, entryOf, nothingBooked}
+use Rattle.books.specs.Enter.{entryOf}
+use Rattle.books.specs.Running.{concerned, nothingBooked}
 use Rattle.trace.specs.declared.Decoded.{Decoded}
 use Rattle.trace.specs.Decode.{decodeOf}
 use Rattle.table.specs.declared.Core.{Core}
@@ -33,8 +34,8 @@ use Rattle.table.specs.declared.Values.{Values}
 use Rattle.table.specs.declared.Outcome.{Outcome}
 use Rattle.table.specs.declared.Outcome.the-variants as O
 use Rattle.table.specs.Table.{malformed}
-use Rattle.changes.specs.declared.Change.{Change}
-use Rattle.changes.specs.declared.Change.the-variants as X
+use Rattle.table.specs.declared.changes.Change.{Change}
+use Rattle.table.specs.declared.changes.Change.the-variants as X
 use Rattle.machine.specs.declared.Machine.{Machine}
 use Rattle.machine.specs.declared.Stepped.{Stepped}
 use Rattle.machine.specs.Step.{withTimer, coreOf, stepOf, reportTells}
@@ -43,14 +44,15 @@ use Rattle.machine.proofs.Tying.{Turn, step-made}
 use Rattle.machine.proofs.Stepping.{every-refusal}
 use Rattle.machine.proofs.InPlace.{entrance, reportable}
 use Rattle.machine.proofs.Whole.{stays-whole}
-use Rattle.ledger.specs.Operate.{storedIn, operateOf, reportValue, reportOf}
+use Rattle.ledger.specs.Operate.{storedIn, operateOf, reportOf}
+use Rattle.ledger.specs.Records.{reportValue}
 use Rattle.ledger.proofs.Operating.{within, storing}
 use Rattle.lines.specs.declared.label.Label.{Label}
-use Rattle.lines.specs.Text.{lineRoom, restRoom}
+use Rattle.lines.specs.Buffer.{lineRoom, restRoom}
 use Rattle.lines.specs.Naming.{nextLabel, labelText, underneath, Named}
 use Rattle.lines.specs.Writing.{Put}
-use Rattle.transcript.specs.Replay.{recordsFrom, machineAfter, linesFrom, outcomeText, restOf}
-use Rattle.transcript.specs.Room.{slotOf, machineOf, Labelled, Replays}
+use Rattle.transcript.specs.Replay.{recordsFrom, machineAfter, linesFrom, outcomeText}
+use Rattle.transcript.specs.Room.{slotOf, machineOf, Labelled, Replays, restOf}
 use Rattle.transcript.specs.Room as room
 use Rattle.lines.proofs.Named.{next-named}
 use Rattle.lines.proofs.Stores.{in-parts}

@@ -23,11 +23,13 @@ use Rattle.transcript.specs.declared.Part.{Part}
 use Rattle.transcript.specs.declared.Replayed.{Replayed}
 use Rattle.lines.specs.Says.{writtenSays}
 use Rattle.lines.specs.declared.label.Label.{Label}
-use Rattle.lines.specs.Text.{decimal, signed, valuesText, lineText, endText, tailText, inputText, fits, putOf, writtenOf, roomyPut, roomyWritten, lineRoom, restRoom}
+use Rattle.lines.specs.Text.{decimal, signed, valuesText, lineText, endText, tailText, inputText}
+use Rattle.lines.specs.Buffer.{fits, putOf, writtenOf, roomyPut, roomyWritten, lineRoom, restRoom}
 use Rattle.lines.specs.Naming.{labelText, underneath, labelPut, labelWritten, Named}
 use Rattle.lines.specs.Writing.{Put}
-use Rattle.transcript.specs.Room.{Labelled, Replays}
-use Rattle.transcript.specs.Replay.{machineAfter, outcomeText, restOf, wholeRecords, linesFrom, partRefused, partOf, partBuffer, lastRoom, mostBytes, lastText, lastOf, textFrom, traceText, roomFor, replayOf, replayedOf}
+use Rattle.transcript.specs.Room.{Labelled, Replays, restOf}
+use Rattle.transcript.specs.Replay.{machineAfter, outcomeText, wholeRecords, linesFrom, lastText, lastOf, textFrom, traceText}
+use Rattle.transcript.specs.Buffer.{partRefused, partOf, partBuffer, lastRoom, roomFor, replayOf, replayedOf, mostBytes}
 use Rattle.lines.proofs.Decimal.{some-digits, size-64}
 use Rattle.lines.proofs.Sizes.{line-size}
 use Rattle.lines.proofs.Named.{named-text, underneath-short, covered}

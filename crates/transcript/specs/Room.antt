@@ -11,14 +11,16 @@ use Rattle.usage.specs.declared.ThreadUsage.{ThreadUsage}
 use Rattle.table.specs.declared.Core.{Core}
 use Rattle.table.specs.declared.Outcome.{Outcome}
 use Rattle.table.specs.declared.Outcome.the-variants as O
-use Rattle.table.specs.Says.{values}
+use Rattle.table.specs.Says.{values, outcomeSays}
 use Rattle.machine.specs.declared.Machine.{Machine}
-use Rattle.transcript.specs.declared.Replayed.{Replayed}
-use Rattle.transcript.specs.Replay.{recordsFrom, machineAfter, linesFrom, lastRoom, mostBytes}
 use Rattle.lines.specs.declared.label.Label.{Label}
-use Rattle.lines.specs.Text.{lineRoom}
+use Rattle.lines.specs.Buffer.{lineRoom}
 use Rattle.lines.specs.Naming.{labelText, underneath}
 use Rattle.lines.specs.Writing.{Put}
+use Rattle.lines.specs.Text.{valuesText}
+use Rattle.transcript.specs.declared.Replayed.{Replayed}
+use Rattle.transcript.specs.Replay.{recordsFrom, machineAfter, linesFrom}
+use Rattle.transcript.specs.Buffer.{lastRoom, mostBytes}
 
 -- accepted, with x and y
 abbrev pub told : ℕ → ℕ → Outcome
@@ -52,3 +54,6 @@ pub record Replays (m : Machine) (first count : ℕ) (trace before now : List �
   pub end : r .end ≡ at + length (linesFrom m first (recordsFrom count trace 0))
   pub bytes : now ≡ sets before at (linesFrom m first (recordsFrom count trace 0))
   pub within : r .end ≤ at + count * lineRoom
+
+unfoldable pub restOf : Outcome → List ℕ
+restOf o = valuesText (outcomeSays o .number) (outcomeSays o .value .x) (outcomeSays o .value .y)

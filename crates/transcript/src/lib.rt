@@ -7,13 +7,13 @@ ghost use lib.Dec.{ltb};
 ghost use Rattle.table.specs.declared.Outcome.the-variants as O;
 ghost use Rattle.machine.specs.Step.{freshMachine};
 ghost use Rattle.lines.specs.Says.{writtenSays};
-ghost use Rattle.lines.specs.Text.{lineRoom, restRoom};
+ghost use Rattle.lines.specs.Buffer.{lineRoom, restRoom};
 ghost use Rattle.lines.specs.Writing.{Put};
-ghost use Rattle.transcript.specs.Room.{told, slotOf, machineOf, Labelled, HasRoom, Replays, Fits};
-ghost use Rattle.transcript.specs.Replay.{restOf, partRefused, partOf, partBuffer, lastRoom, lastText, textFrom, roomFor, replayOf, replayedOf};
+ghost use Rattle.transcript.specs.Room.{told, slotOf, machineOf, Labelled, HasRoom, Replays, Fits, restOf};
+ghost use Rattle.transcript.specs.Replay.{lastText, textFrom};
+ghost use Rattle.transcript.specs.Buffer.{partRefused, partOf, partBuffer, lastRoom, roomFor, replayOf, replayedOf};
 use books::Books;
 use books::Entered;
-use changes::Change;
 use clock::Clock;
 use clock::Timer;
 use counter::Counter;
@@ -32,6 +32,7 @@ use lines::put_values;
 use machine::Machine;
 use table::Core;
 use table::Reason;
+use table::changes::Change;
 use table::malformed;
 use units::Cycles;
 use usage::ThreadUsage;
@@ -121,7 +122,7 @@ fn put_records(
         label = label.next();
         from = from + 16;
         left = left - 1;
-        let change = changes::change_at(broken, core, ThreadUsage::SLOTS, trace, place);
+        let change = table::changes::change_at(broken, core, ThreadUsage::SLOTS, trace, place);
         match change {
             Change::Refused(why) => {
                 end = put_refused(out, second, why);

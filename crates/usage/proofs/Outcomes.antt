@@ -8,7 +8,8 @@ use Rattle.error.specs.declared.Refusal.the-variants.{Overflow}
 use Rattle.error.specs.Numbers.{max32, max64}
 use Rattle.units.specs.declared.Cycles.{Cycles}
 use Rattle.usage.specs.Record.{withFlag, withTotal, withWindows}
-use Rattle.usage.specs.Leaves.{enabled, enabledRecord, accumulated, averageCycles, stopDecide}
+use Rattle.usage.specs.Leaves.{enabled, enabledRecord, accumulated, stopDecide}
+use Rattle.usage.specs.Formulas.{averageCycles}
 use Rattle.usage.specs.declared.ThreadUsage.{ThreadUsage}
 use Rattle.usage.specs.declared.Changed.the-variants as C
 use Rattle.usage.specs.declared.StopDecision.the-variants.{Accumulate, Skip}

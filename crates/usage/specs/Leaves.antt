@@ -1,5 +1,5 @@
--- The thread record's leaves, by 01's "Leaf formulas".
-use Prim.Native.Nat.{ℕ, _+_, _-_, _/_, _%_, _^_}
+-- Inside: the thread record's leaves as their contracts cite them. `LeavesExact` (crates/demands/specs/Leaves.antt) writes each out.
+use Prim.Native.Nat.{ℕ, _+_}
 use mathlib.Core.Bool.{Bool, true, false, cond, not, _&&_}
 use mathlib.Core.List.{List, [], _∷_}
 use lib.Dec.{ltb, eqb}
@@ -7,7 +7,6 @@ use Rattle.error.specs.declared.Refusal.{Refusal}
 use Rattle.error.specs.declared.Refusal.the-variants.{Overflow}
 use Rattle.error.specs.Numbers.{max32, max64}
 use Rattle.error.specs.InOrder.{Row, inOrder}
-use Rattle.units.specs.declared.Cycles.{Cycles}
 use Rattle.usage.specs.declared.ThreadUsage.{ThreadUsage}
 use Rattle.usage.specs.declared.Changed.{Changed}
 use Rattle.usage.specs.declared.Changed.the-variants as C
@@ -42,14 +41,6 @@ unfoldable pub accumulated : ThreadUsage → ℕ → Changed
 accumulated u cycles =
     inOrder (sumTests u cycles) C.Refused
     (C.Accepted (withTotal (record { 0 = u .«total_cycles» .0 + cycles }) u))
-
--- Total / windows rounded down, 0 for no windows.
-unfoldable pub averageCycles : Cycles → ℕ → Cycles
-averageCycles total windows = record { 0 = cond (eqb windows 0) 0 (total .0 / windows) }
-
--- Timestamp difference: now - then, wrapping at 2^32.
-abbrev pub elapsedCycles : ℕ → ℕ → ℕ
-elapsedCycles now then = (now + 2 ^ 32 - then) % 2 ^ 32
 
 -- The four decide functions, as their upstream clauses say.
 abbrev pub sysEnableDecide : Bool → SysTrackDecision

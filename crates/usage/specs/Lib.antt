@@ -1,3 +1,4 @@
 pub mod Record
 pub mod Leaves
 pub mod Says
+pub mod Formulas

@@ -1,12 +1,8 @@
--- A thread's record: fresh, and with one part changed. Nothing else builds one.
+-- Inside: a thread's record with one part changed, which is how a leaf changes it. `LeavesExact` (crates/demands/specs/Leaves.antt) writes the changes out.
 use Prim.Native.Nat.{ℕ}
-use mathlib.Core.Bool.{Bool, false}
+use mathlib.Core.Bool.{Bool}
 use Rattle.units.specs.declared.Cycles.{Cycles}
 use Rattle.usage.specs.declared.ThreadUsage.{ThreadUsage}
-
--- untracked with zeros
-abbrev pub newIdle : ThreadUsage
-newIdle = record { «track_usage» = false; «total_cycles» = record { 0 = 0 }; «num_windows» = 0 }
 
 abbrev pub withFlag : Bool → ThreadUsage → ThreadUsage
 withFlag flag u = record { «track_usage» = flag; «total_cycles» = u .«total_cycles»; «num_windows» = u .«num_windows» }

@@ -1,4 +1,4 @@
--- What each answer of a thread record's leaf says: 01's number and values for each of its cases.
+-- Inside: what each answer of a thread record's leaf says, and what a change leaves of a lent record. `Readers` (crates/demands/specs/Readers.antt) says it of all.
 use Prim.Native.Nat.{ℕ}
 use mathlib.Core.Bool.{Bool, true, false}
 use Rattle.error.specs.declared.Refusal.{Refusal}
@@ -14,7 +14,7 @@ use Rattle.usage.specs.declared.StartDecision.{StartDecision}
 use Rattle.usage.specs.declared.StartDecision.the-variants.{RecordStart, RecordOnly}
 use Rattle.usage.specs.declared.StopDecision.{StopDecision}
 use Rattle.usage.specs.declared.StopDecision.the-variants.{Accumulate, Skip}
-use Rattle.usage.specs.Record.{newIdle}
+use Rattle.usage.specs.Formulas.{newIdle}
 use Rattle.usage.specs.Leaves.{enabled, disabled, accumulated}
 
 unfoldable pub changedSays : Changed → Said ThreadUsage

@@ -1,7 +1,7 @@
 // A thread's usage record and its leaves: upstream's usage.rs by value, on any numbers.
 ghost use mathlib.Core.Path.{_≡_};
-ghost use Rattle.usage.specs.Record.{newIdle};
-ghost use Rattle.usage.specs.Leaves.{enabled, disabled, accumulated, averageCycles, elapsedCycles, sysEnableDecide, sysDisableDecide, startDecide, stopDecide};
+ghost use Rattle.usage.specs.Formulas.{newIdle, averageCycles, elapsedStamps};
+ghost use Rattle.usage.specs.Leaves.{enabled, disabled, accumulated, sysEnableDecide, sysDisableDecide, startDecide, stopDecide};
 ghost use Rattle.usage.specs.Says.{changedSays, changedWhy, outcomeOf, enableOutcome, disableOutcome, accumulateOutcome, applies, recordsStart, accumulates};
 use error::Refusal;
 use units::Cycles;
@@ -262,7 +262,7 @@ pub fn average_cycles(total_cycles: Cycles, num_windows: u32) -> Cycles
 
 // The cycles from one stamp to another, right across a wrap of the 32-bit stamp.
 pub fn elapsed_cycles(now: u32, usage0: u32) -> u32
-    ensures { λ r. ⌜ r ≡ elapsedCycles now usage0 ⌝ }
+    ensures { λ r. ⌜ r ≡ elapsedStamps now usage0 ⌝ }
 {
     std::num::wrapping_sub_u32(now, usage0)
 }

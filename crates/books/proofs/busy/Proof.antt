@@ -1,6 +1,6 @@
 -- `busy` tells of a start while one runs.
 use mathlib.Core.Path.{sym, ap}
-use Rattle.books.specs.Enter.{busy}
+use Rattle.books.specs.Running.{busy}
 use borrow.Author.Needs.{needs}
 use Rattle.books.proofs.busy.Statement.{statement}
 use Rattle.books.proofs.busy.Tie as tie

@@ -1,6 +1,6 @@
 -- `concerned` names the thread whose record an operation concerns.
 use mathlib.Core.Path.{_∙_, sym, ap}
-use Rattle.books.specs.Enter.{concerned}
+use Rattle.books.specs.Running.{concerned}
 use borrow.Author.Needs.{needs}
 use Rattle.books.proofs.concerned.Statement.{statement}
 use Rattle.books.proofs.concerned.Tie as tie

@@ -1,7 +1,7 @@
 -- `past` tests the thread that an operation names.
 use mathlib.Core.Path.{sym, ap, _∙_}
 use Rattle.books.specs.declared.Operation.{Operation}
-use Rattle.books.specs.Enter.{past}
+use Rattle.books.specs.Running.{past}
 use borrow.Author.Needs.{needs}
 use Rattle.books.proofs.past.Statement.{statement}
 use Rattle.books.proofs.past.Tie as tie

@@ -1,6 +1,6 @@
 -- `unrecorded` tells of a running thread without a record.
 use mathlib.Core.Path.{refl}
-use Rattle.books.specs.Enter.{unrecorded}
+use Rattle.books.specs.Running.{unrecorded}
 use borrow.Author.Needs.{needs}
 use Rattle.books.proofs.unrecorded.Statement.{statement}
 use Rattle.books.proofs.unrecorded.Tie as tie

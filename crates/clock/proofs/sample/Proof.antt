@@ -1,6 +1,6 @@
 -- `sample` answers by its definition: three tests, then the readings.
 use mathlib.Core.Path.{_∙_, sym, ap}
-use Rattle.counter.specs.Entries.{cyclesAbove}
+use Rattle.counter.specs.Readings.{cyclesAbove}
 use Rattle.clock.proofs.Outcomes as outcome
 use borrow.Author.Needs.{needs}
 use Rattle.clock.proofs.sample.Statement.{statement}

@@ -4,7 +4,8 @@ use mathlib.Core.Path.{_≡_}
 use native.Mathlib.Omega.{arith}
 use lib.ListN.{length}
 use borrow.Author.Needs.{needs}
-use Rattle.lines.specs.Text.{lineText, lineRoom}
+use Rattle.lines.specs.Text.{lineText}
+use Rattle.lines.specs.Buffer.{lineRoom}
 use Rattle.lines.proofs.Sizes.{line-room}
 use Rattle.lines.proofs.Signs.{same}
 use Rattle.lines.proofs.StepLine.{line-total}

@@ -5,7 +5,8 @@ use native.Mathlib.Omega.{arith}
 use borrow.Author.Needs.{needs}
 use mir.Syntax.{w32}
 use mir.Val.{toZ, ofZ}
-use Rattle.lines.specs.Text.{valuesText, restRoom}
+use Rattle.lines.specs.Text.{valuesText}
+use Rattle.lines.specs.Buffer.{restRoom}
 use Rattle.lines.proofs.Signs.{same}
 use Rattle.lines.proofs.Sizes.{code-fits}
 use Rattle.lines.proofs.Parts.{there}

@@ -4,7 +4,8 @@ use native.Mathlib.Omega.{arith}
 use lib.IntN.{pos}
 use lib.ListN.{length, length-set}
 use borrow.Author.Needs.{needs}
-use Rattle.lines.specs.Text.{valuesText, restRoom}
+use Rattle.lines.specs.Text.{valuesText}
+use Rattle.lines.specs.Buffer.{restRoom}
 use Rattle.lines.proofs.Parts.{there}
 use Rattle.lines.proofs.StepLine.{Rest, any-rest, for-first, for-second, values, zero-code}
 use Rattle.lines.proofs.Whole.{not-roomy, whole-roomy}

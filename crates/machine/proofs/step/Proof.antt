@@ -3,7 +3,7 @@ use mathlib.Core.Path.{refl, sym, ap, _∙_}
 use mathlib.Core.Bool.{true}
 use lib.ListN.{length-map}
 use Rattle.ledger.specs.declared.Ledger.{Ledger}
-use Rattle.ledger.specs.Operate.{freshOf}
+use Rattle.ledger.specs.Records.{freshLedger}
 use Rattle.table.specs.declared.Outcome.the-variants as O
 use Rattle.table.specs.Says.{values}
 use Rattle.machine.proofs.Making.{operationTells, reportedBy, madeOf}
@@ -54,7 +54,7 @@ unfolding madeOf operationTells reportedBy
 returns-8 c =
     let t = turn (c .before .before .before .before .before) in
     c .accepted5 .ensures ∙
-    (ap (λ (l : Ledger). record { outcome = O.Accepted (values 0 0); machine = record { ready = true; timer = c .before .before .before .change6 .given .0 .0; ledger = l } }) (c .before .fresh .ensures ∙ ap freshOf (sym (t .table))) ∙
+    (ap (λ (l : Ledger). record { outcome = O.Accepted (values 0 0); machine = record { ready = true; timer = c .before .before .before .change6 .given .0 .0; ledger = l } }) (c .before .fresh .ensures ∙ ap freshLedger (sym (t .table))) ∙
     sym (step-made t ∙ ap (madeOf _) (c .before .before .before .change6 .given .1)))
 
 pub step-spec : {M : Type 1} → statement M

@@ -2,14 +2,14 @@
 use mathlib.Core.Path.{subst}
 use native.Mathlib.Omega.{arith}
 use borrow.Author.Needs.{needs}
-use Rattle.replay.specs.Within.{Within}
+use Rattle.replay.specs.Within.{ReadsWithin}
 use Rattle.replay.proofs.replay_from.Statement.{statement}
 use Rattle.replay.proofs.replay_from.Tie as tie
 
 part-write-lines-end : tie.Need-part-write-lines-end
 part-write-lines-end c =
     let read = c .before .before .before .before .before .read-trace in
-    omega (arith, subst (Within (read .last .1 .0)) (c .before .before .got .given .1) (read .ensures))
+    omega (arith, subst (ReadsWithin (read .last .1 .0)) (c .before .before .got .given .1) (read .ensures))
 
 pub replay-from-spec : {M : Type 1} → statement M
 replay-from-spec =

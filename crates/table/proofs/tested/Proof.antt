@@ -1,5 +1,5 @@
 -- `tested` makes the tests of the table in order.
-use Rattle.table.specs.Table.{testedOf}
+use Rattle.table.specs.Change.{testedOf}
 use borrow.Author.Needs.{needs}
 use Rattle.table.proofs.tested.Statement.{statement}
 use Rattle.table.proofs.tested.Tie as tie

@@ -1,14 +1,14 @@
 -- `decode_fields` looks at what its kind does not use, and makes the record.
 use mathlib.Core.Bool.{or-false}
 use Rattle.trace.proofs.Outcomes.{spare-set, setup, unknown}
-use Rattle.trace.specs.Decode.{decodeFields, unusedSet, samples, usesThread, recordOf}
+use Rattle.trace.specs.Decode.{decodeFields, unusedSet, samplesFirst, usesThread, recordOf}
 use borrow.Author.Needs.{needs}
 use Rattle.trace.proofs.decode_fields.Statement.{statement}
 use Rattle.trace.proofs.decode_fields.Tie as tie
 
 -- the kinds 0 to 8
 kinds : tie.Need-returns-2 × tie.Need-returns-3 × tie.Need-returns-4 × tie.Need-returns-5 × tie.Need-returns-6 × tie.Need-returns-7 × tie.Need-returns-8 × tie.Need-returns-9 × tie.Need-returns-10
-unfolding decodeFields unusedSet samples usesThread recordOf
+unfolding decodeFields unusedSet samplesFirst usesThread recordOf
 kinds = (
   λ c. simp (c .accepted-unless .ensures, c .before .match .keys1, c .before .before .if1 .left, or-false),
   λ c. simp (c .accepted-unless2 .ensures, c .before .match .keys2, c .before .before .if1 .left, or-false),

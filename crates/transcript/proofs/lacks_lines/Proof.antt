@@ -4,7 +4,7 @@ use mathlib.Core.Path.{sym}
 use native.Mathlib.Omega.{arith}
 use borrow.Author.Tests.{lt-ltb}
 use Rattle.error.proofs.Tests.{same-test}
-use Rattle.lines.specs.Text.{lineRoom}
+use Rattle.lines.specs.Buffer.{lineRoom}
 use Rattle.transcript.proofs.lacks_lines.Statement.{statement}
 use Rattle.transcript.proofs.lacks_lines.Tie as tie
 

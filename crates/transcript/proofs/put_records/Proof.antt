@@ -7,7 +7,7 @@ use Rattle.trace.specs.Decode.{decodeOf}
 use Rattle.table.specs.Table.{malformed}
 use Rattle.lines.specs.Naming.{Named}
 use Rattle.lines.proofs.Named.{of-named}
-use Rattle.lines.specs.Text.{lineRoom}
+use Rattle.lines.specs.Buffer.{lineRoom}
 use Rattle.transcript.specs.Replay.{recordsFrom}
 use Rattle.transcript.specs.Room.{machineOf}
 use Rattle.machine.specs.Step.{reportTells}

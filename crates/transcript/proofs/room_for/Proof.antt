@@ -1,6 +1,6 @@
 -- `room_for` is the room for the longest text.
 use borrow.Author.Tests.{lt-ltb, le-ltb}
-use Rattle.transcript.specs.Replay.{roomFor}
+use Rattle.transcript.specs.Buffer.{roomFor}
 use Rattle.lines.proofs.Sizes.{tail-size, input-size}
 use borrow.Author.Needs.{needs}
 use Rattle.transcript.proofs.room_for.Statement.{statement}

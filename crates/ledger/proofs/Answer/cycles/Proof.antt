@@ -1,7 +1,7 @@
 -- `Answer::cycles`: the accepted value, zero where refused.
 use mathlib.Core.Path.{sym, ap}
 use borrow.Author.Needs.{needs}
-use Rattle.ledger.specs.Says.{answerSays}
+use Rattle.ledger.specs.Records.{answerSays}
 use Rattle.ledger.specs.declared.Answer.{Answer}
 use Rattle.ledger.proofs.Answer.cycles.Statement.{statement}
 use Rattle.ledger.proofs.Answer.cycles.Tie as tie

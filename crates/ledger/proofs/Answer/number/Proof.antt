@@ -2,7 +2,7 @@
 use mathlib.Core.Path.{_∙_, sym, ap}
 use borrow.Author.Needs.{needs}
 use Rattle.error.proofs.Answers.{handed}
-use Rattle.ledger.specs.Says.{answerSays}
+use Rattle.ledger.specs.Records.{answerSays}
 use Rattle.ledger.specs.declared.Answer.{Answer}
 use Rattle.ledger.proofs.Answer.number.Statement.{statement}
 use Rattle.ledger.proofs.Answer.number.Tie as tie

@@ -3,7 +3,7 @@ use mathlib.Core.Path.{_∙_}
 use native.Mathlib.Omega.{arith}
 use borrow.Author.Needs.{needs}
 use lib.ListN.{length, length-map, length-set}
-use Rattle.lines.specs.Naming.{lost}
+use Rattle.lines.specs.Naming.{unusable}
 use Rattle.lines.proofs.Decimal.{size-64}
 use Rattle.lines.proofs.Labels.{no-room, whole-number, Kept, kept, pair-room, space-room, accepted}
 use Rattle.lines.proofs.Parts.{there}
@@ -22,7 +22,7 @@ abbrev Used : Type 0
 Used = lts.Else2 (lacks-room-reads.Asked, lacks-room-reads.Learnt, whole-reads.Asked, whole-reads.Learnt, put-long-reads.Asked, put-long-reads.Learnt, put-letters-reads.Asked, put-letters-reads.Learnt, put-two-reads.Asked, put-two-reads.Learnt) reads.Pre reads.Post
 
 known : (c : Used) → Kept (c .before .before .before .before .before .args .out .now) (c .before .before .before .before .before .args .at) (c .before .before .before .before .before .args .label)
-unfolding lost
+unfolding unusable
 known c =
     let a = c .before .before .before .before .before .args in
     kept (a .out .now) (a .at) (a .label) (there (a .at) 75 (length (a .out .now)) (c .before .before .before .lacks-room .ensures) (c .before .before .if1 .left)) (c .if2 .left) (simp length-map at (c .before .before .before .before .before .good .1 .1 .0 .1 .1 .1 .1 .1 .0 .1 .0 .1))
@@ -37,7 +37,7 @@ whole-room c κs =
     record { room = omega (arith, size-64 (c .before .whole .result) (omega arith)) }
 
 whole-put : tie.Need-returns-2
-unfolding lost
+unfolding unusable
 whole-put c =
     let a = c .before .before .before .before .before .before .before .before .before .before .args in
     let room = there (a .at) 75 (length (a .out .now)) (c .before .before .before .before .before .before .before .before .lacks-room .ensures) (c .before .before .before .before .before .before .before .if1 .left) in

@@ -1,0 +1,20 @@
+-- `setup_change` makes the table's tests, and then sets the timer up.
+use mathlib.Core.Path.{ap, _∙_}
+use Rattle.table.specs.Task.{askedBy}
+use Rattle.table.specs.declared.tasks.Task.the-variants as T
+use Rattle.table.specs.Change.{setUpChange, effectChange}
+use Rattle.table.proofs.Passing.{passes, fails}
+use borrow.Author.Needs.{needs}
+use Rattle.table.proofs.changes.setup_change.Statement.{statement}
+use Rattle.table.proofs.changes.setup_change.Tie as tie
+
+returns : tie.Need-returns
+unfolding askedBy effectChange
+returns c = passes (c .before .before .before .before .before .before .args .core) (c .before .before .before .before .before .before .args .slots) (T.Setup (c .before .before .before .before .before .before .args .setup)) (c .before .before .before .before .tested .ensures) (c .before .before .before .before .before .asks-setup .ensures) (c .before .before .enum-told .given .1) (c .set-up-change .ensures ∙ ap setUpChange (c .before .set-up .ensures))
+
+returns-2 : tie.Need-returns-2
+unfolding askedBy effectChange
+returns-2 c = fails (c .before .before .before .before .before .args .core) (c .before .before .before .before .before .args .slots) (T.Setup (c .before .before .before .before .before .args .setup)) (c .before .before .before .tested .ensures) (c .before .before .before .before .asks-setup .ensures) (c .before .verdict .given .1)
+
+pub setup-change-spec : {M : Type 1} → statement M
+setup-change-spec = tie.close (tie.spec (λ c κs. search needs) (λ c κs. search needs) (λ c. search needs) (λ c κs. search needs) (λ c κs. search needs) (λ c. search needs) returns returns-2)

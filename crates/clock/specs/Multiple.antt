@@ -2,7 +2,6 @@
 use Prim.Native.Nat.{ℕ, _+_, _-_, _*_, _/_, _%_, _≤_, _<_}
 use mathlib.Core.Path.{_≡_}
 
--- what a run from setup has announced, against the last reading before it
 pub record LargestMultiple (period tick announced last : ℕ) : Type 0 where
   -- the largest multiple of the tick within the whole periods counted
   pub multiple : announced % tick ≡ 0

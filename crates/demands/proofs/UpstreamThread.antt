@@ -10,7 +10,7 @@ use Rattle.error.specs.Numbers.{ok, minus, max32, max64}
 use Rattle.units.specs.declared.Cycles.{Cycles}
 use Rattle.usage.specs.Leaves.{enabled, accumulated, sysEnableDecide, sysDisableDecide, startDecide, stopDecide}
 use Rattle.usage.specs.Formulas.{elapsedStamps}
-use Rattle.usage.specs.Says.{outcomeOf, changedSays, kept, applies}
+use Rattle.usage.specs.Says.{outcomeOf, changedSays, kept, applies, enableOutcome, disableOutcome, accumulateOutcome}
 use Rattle.usage.specs.declared.ThreadUsage.{ThreadUsage}
 use Rattle.usage.specs.declared.Changed.{Changed}
 use Rattle.usage.specs.declared.Changed.the-variants as C
@@ -19,7 +19,7 @@ use Rattle.usage.specs.declared.SysTrackDecision.the-variants.{NoOp}
 use Rattle.usage.specs.declared.StartDecision.the-variants.{RecordStart}
 use Rattle.usage.specs.declared.StopDecision.the-variants.{Accumulate}
 use Rattle.usage.proofs.Outcomes as thread
-use Rattle.demands.specs.UpstreamThread.{enable, disable, accumulate, EnableEnsures, DisableEnsures, AccumulateEnsures, ThreadClauses, ThreadLemmas, sysEnabled, sysDisabled}
+use Rattle.demands.specs.UpstreamThread.{EnableEnsures, DisableEnsures, AccumulateEnsures, ThreadClauses, ThreadLemmas, sysEnabled, sysDisabled}
 use Rattle.demands.proofs.Exactly.{either}
 
 -- an accepted change with 0 and the new record
@@ -27,7 +27,7 @@ stored : (u v : ThreadUsage) (answer : Changed) → answer ≡ C.Accepted v → 
 unfolding outcomeOf changedSays kept
 stored u v answer e = ap (outcomeOf u) e
 
-enable-clauses : (u : ThreadUsage) → (u .«track_usage» ≡ true) ⊎ ((u .«track_usage» ≡ false) × (u .«num_windows» ≡ max32 → ⊥)) → EnableEnsures u (enable u)
+enable-clauses : (u : ThreadUsage) → (u .«track_usage» ≡ true) ⊎ ((u .«track_usage» ≡ false) × (u .«num_windows» ≡ max32 → ⊥)) → EnableEnsures u (enableOutcome u)
 enable-clauses u (inl on) =
     rw (stored u u (enabled u) (thread.already-tracked u on))
     (record {
@@ -47,19 +47,19 @@ enable-clauses u (inr (off, room)) =
       windows-kept = λ on. clash (cc);
     })
 
-full : (u : ThreadUsage) → u .«track_usage» ≡ false → u .«num_windows» ≡ max32 → enable u ≡ record { code = minus 139; usage = u }
+full : (u : ThreadUsage) → u .«track_usage» ≡ false → u .«num_windows» ≡ max32 → enableOutcome u ≡ record { code = minus 139; usage = u }
 unfolding outcomeOf changedSays kept
 full u off h = ap (outcomeOf u) (thread.windows-full u off h)
 
-disable-clauses : (u : ThreadUsage) → DisableEnsures u (disable u)
+disable-clauses : (u : ThreadUsage) → DisableEnsures u (disableOutcome u)
 unfolding outcomeOf changedSays kept
 disable-clauses u = record { code = refl; untracked = refl; total = refl; windows = refl }
 
-accumulate-clauses : (u : ThreadUsage) (cycles : ℕ) → AccumulateEnsures u cycles (accumulate u cycles)
+accumulate-clauses : (u : ThreadUsage) (cycles : ℕ) → AccumulateEnsures u cycles (accumulateOutcome u cycles)
 unfolding outcomeOf changedSays kept
 accumulate-clauses u cycles = by-case (either (u .«total_cycles» .0 + cycles) max64)
   where
-    by-case : (u .«total_cycles» .0 + cycles ≤ max64) ⊎ (max64 < u .«total_cycles» .0 + cycles) → AccumulateEnsures u cycles (accumulate u cycles)
+    by-case : (u .«total_cycles» .0 + cycles ≤ max64) ⊎ (max64 < u .«total_cycles» .0 + cycles) → AccumulateEnsures u cycles (accumulateOutcome u cycles)
     by-case (inl h) =
         rw (stored u _ (accumulated u cycles) (thread.sum-kept u cycles h))
         (record {
@@ -70,7 +70,7 @@ accumulate-clauses u cycles = by-case (either (u .«total_cycles» .0 + cycles) 
           windows = refl;
         })
     by-case (inr h) =
-        let is : accumulate u cycles ≡ record { code = minus 139; usage = u } = ap (outcomeOf u) (thread.sum-above u cycles h) in
+        let is : accumulateOutcome u cycles ≡ record { code = minus 139; usage = u } = ap (outcomeOf u) (thread.sum-above u cycles h) in
         rw is
         (record {
           code = inr refl;
@@ -116,18 +116,18 @@ only-tracked : (flag : Bool) → startDecide flag ≡ RecordStart → flag ≡ t
 only-tracked true e = refl
 only-tracked false e = clash (cc)
 
-there-and-back : (u : ThreadUsage) → u .«track_usage» ≡ false → (u .«num_windows» ≡ max32 → ⊥) → disable (enable u .usage) ≡ record { code = ok; usage = record { «track_usage» = false; «total_cycles» = u .«total_cycles»; «num_windows» = u .«num_windows» + 1 } }
+there-and-back : (u : ThreadUsage) → u .«track_usage» ≡ false → (u .«num_windows» ≡ max32 → ⊥) → disableOutcome (enableOutcome u .usage) ≡ record { code = ok; usage = record { «track_usage» = false; «total_cycles» = u .«total_cycles»; «num_windows» = u .«num_windows» + 1 } }
 unfolding outcomeOf changedSays kept
-there-and-back u off room = ap (λ (o : Outcome). disable (o .usage)) (stored u _ (enabled u) (thread.window-opened u off room))
+there-and-back u off room = ap (λ (o : Outcome). disableOutcome (o .usage)) (stored u _ (enabled u) (thread.window-opened u off room))
 
-there-and-back-tracked : (u : ThreadUsage) → u .«track_usage» ≡ true → disable (enable u .usage) ≡ record { code = ok; usage = record { «track_usage» = false; «total_cycles» = u .«total_cycles»; «num_windows» = u .«num_windows» } }
+there-and-back-tracked : (u : ThreadUsage) → u .«track_usage» ≡ true → disableOutcome (enableOutcome u .usage) ≡ record { code = ok; usage = record { «track_usage» = false; «total_cycles» = u .«total_cycles»; «num_windows» = u .«num_windows» } }
 unfolding outcomeOf changedSays kept
-there-and-back-tracked u on = ap (λ (o : Outcome). disable (o .usage)) (stored u _ (enabled u) (thread.already-tracked u on))
+there-and-back-tracked u on = ap (λ (o : Outcome). disableOutcome (o .usage)) (stored u _ (enabled u) (thread.already-tracked u on))
 
-never-falls : (u : ThreadUsage) (cycles : ℕ) → u .«total_cycles» .0 ≤ accumulate u cycles .usage .«total_cycles» .0
+never-falls : (u : ThreadUsage) (cycles : ℕ) → u .«total_cycles» .0 ≤ accumulateOutcome u cycles .usage .«total_cycles» .0
 never-falls u cycles = by-case (accumulate-clauses u cycles .code)
   where
-    by-case : (accumulate u cycles .code ≡ ok) ⊎ (accumulate u cycles .code ≡ minus 139) → u .«total_cycles» .0 ≤ accumulate u cycles .usage .«total_cycles» .0
+    by-case : (accumulateOutcome u cycles .code ≡ ok) ⊎ (accumulateOutcome u cycles .code ≡ minus 139) → u .«total_cycles» .0 ≤ accumulateOutcome u cycles .usage .«total_cycles» .0
     by-case (inl n) = rw (accumulate-clauses u cycles .added n) (omega arith)
     by-case (inr n) = rw (accumulate-clauses u cycles .unchanged n) (omega arith)
 

@@ -35,7 +35,7 @@ pub writers : Writers
 unfolding fits putOf writtenOf roomyPut roomyWritten labelPut partOf partBuffer roomFor
 writers = record {
   text = λ buffer at text. record { enough = λ h. rw (le-leb _ _ h) (refl, refl); no-room = λ h. rw (lt-leb _ _ h) (refl, refl) };
-  line = λ room buffer at text. record { enough = λ h. rw (le-ltb _ _ h) (refl, refl); no-room = λ h. rw (lt-ltb _ _ h) (refl, refl) };
+  rest = λ room buffer at text. record { enough = λ h. rw (le-ltb _ _ h) (refl, refl); no-room = λ h. rw (lt-ltb _ _ h) (refl, refl) };
   rooms = (refl, refl, refl);
   label = λ buffer at l h. rw (le-ltb _ _ h) (refl, refl);
   no-label = λ buffer at l h. rw (lt-ltb _ _ h) (refl, refl);

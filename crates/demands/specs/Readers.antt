@@ -4,6 +4,7 @@ use mathlib.Core.Path.{_≡_}
 use mathlib.Core.Bool.{true, false}
 use mathlib.Core.List.{[], _∷_, _++_}
 use Rattle.error.specs.declared.Refusal.{Refusal}
+use Rattle.error.specs.declared.Refusal.the-variants.{Invalid}
 use Rattle.error.specs.Numbers.{ok, numberOf, max64}
 use Rattle.error.specs.Said.{Said, accepted, refused}
 use Rattle.systick.specs.declared.ElapsedCycles.the-variants as E
@@ -48,25 +49,25 @@ pub record Reads {Answer Value : Type 0} (accept : Value → Answer) (refuse : R
   pub of-accepted : (v : Value) → says (accept v) ≡ accepted v
   pub of-refused : (why : Refusal) → says (refuse why) ≡ refused why zeros
 
--- the reason of a refusal
-abbrev pub GivesReason : {Answer : Type 0} → (Refusal → Answer) → (Answer → Refusal) → Type 0
-GivesReason refuse reason = (why : Refusal) → reason (refuse why) ≡ why
+-- the reason of a refusal; of an accepted answer nobody asks, and Invalid stands in
+abbrev pub GivesReason : {Answer Value : Type 0} → (Value → Answer) → (Refusal → Answer) → (Answer → Refusal) → Type 0
+GivesReason {Answer} {Value} accept refuse reason = ((why : Refusal) → reason (refuse why) ≡ why) × ((v : Value) → reason (accept v) ≡ Invalid)
 
 pub record Readers : Type 0 where
   pub elapsed-cycles : Reads E.Accepted E.Refused elapsedCyclesSays 0
   pub cycles-to-ticks : Reads T.Accepted T.Refused cyclesToTicksSays (record { 0 = 0 })
   pub ticks-to-cycles : Reads C.Accepted C.Refused ticksToCyclesSays (record { 0 = 0 })
   pub max-ticks : Reads M.Accepted M.Refused maxTicksSays (record { 0 = 0 })
-  pub elapsed-decide : Reads D.Accepted D.Refused elapsedDecideSays (record { «wrap_detected» = false; «new_overflow_cyc» = 0; elapsed = 0 }) × GivesReason D.Refused elapsedDecideWhy
-  pub announce-decide : Reads N.Accepted N.Refused announceDecideSays (record { dticks = record { 0 = 0 }; «new_cycle_count» = record { 0 = 0 }; «new_announced_cycles» = record { 0 = 0 } }) × GivesReason N.Refused announceDecideWhy
-  pub changed : Reads X.Accepted X.Refused changedSays newIdle × GivesReason X.Refused changedWhy
-  pub ran : Reads R.Accepted R.Refused ranSays (freshCounter 0) × GivesReason R.Refused ranWhy
-  pub sample-read : GivesReason Sample.Refused sampleReadWhy
+  pub elapsed-decide : Reads D.Accepted D.Refused elapsedDecideSays (record { «wrap_detected» = false; «new_overflow_cyc» = 0; elapsed = 0 }) × GivesReason D.Accepted D.Refused elapsedDecideWhy
+  pub announce-decide : Reads N.Accepted N.Refused announceDecideSays (record { dticks = record { 0 = 0 }; «new_cycle_count» = record { 0 = 0 }; «new_announced_cycles» = record { 0 = 0 } }) × GivesReason N.Accepted N.Refused announceDecideWhy
+  pub changed : Reads X.Accepted X.Refused changedSays newIdle × GivesReason X.Accepted X.Refused changedWhy
+  pub ran : Reads R.Accepted R.Refused ranSays (freshCounter 0) × GivesReason R.Accepted R.Refused ranWhy
+  pub sample-read : GivesReason Sample.Accepted Sample.Refused sampleReadWhy
   pub value-read : Reads Read.Accepted Read.Refused valueSays 0
-  pub set-up : Reads U.Accepted U.Refused setUpSays (setup 0 0) × GivesReason U.Refused setUpWhy
-  pub sampled : Reads S.Accepted S.Refused sampledSays (record { elapsed = 0; wrap = false; reading = record { 0 = 0 }; timer = setup 0 0 }) × GivesReason S.Refused sampledWhy
-  pub announced : Reads A.Accepted A.Refused announcedSays (record { dticks = record { 0 = 0 }; timer = setup 0 0 }) × GivesReason A.Refused announcedWhy
-  pub entered : GivesReason B.Refused enteredWhy
+  pub set-up : Reads U.Accepted U.Refused setUpSays (setup 0 0) × GivesReason U.Accepted U.Refused setUpWhy
+  pub sampled : Reads S.Accepted S.Refused sampledSays (record { elapsed = 0; wrap = false; reading = record { 0 = 0 }; timer = setup 0 0 }) × GivesReason S.Accepted S.Refused sampledWhy
+  pub announced : Reads A.Accepted A.Refused announcedSays (record { dticks = record { 0 = 0 }; timer = setup 0 0 }) × GivesReason A.Accepted A.Refused announcedWhy
+  pub entered : GivesReason B.Accepted B.Refused enteredWhy
   pub reported : Reads P.Accepted P.Refused reportedSays (record { total = record { 0 = 0 }; average = record { 0 = 0 } })
   pub written : Reads W.Accepted W.Refused writtenSays 0
   pub decoded : ((r : Record) → decodedNumber (Y.Accepted r) ≡ ok) × ((why : Refusal) → decodedNumber (Y.Refused why) ≡ numberOf why)

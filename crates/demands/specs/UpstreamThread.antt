@@ -12,18 +12,8 @@ use Rattle.usage.specs.declared.SysTrackDecision.the-variants.{NoOp, Apply}
 use Rattle.usage.specs.declared.StartDecision.the-variants.{RecordStart, RecordOnly}
 use Rattle.usage.specs.declared.StopDecision.the-variants.{Accumulate, Skip}
 use Rattle.usage.specs.Formulas.{newIdle, averageCycles, elapsedStamps}
-use Rattle.usage.specs.Leaves.{enabled, disabled, accumulated, sysEnableDecide, sysDisableDecide, startDecide, stopDecide}
-use Rattle.usage.specs.Says.{outcomeOf, applies}
-
--- the code and the record after each method of a record
-abbrev pub enable : ThreadUsage → Outcome
-enable u = outcomeOf u (enabled u)
-
-abbrev pub disable : ThreadUsage → Outcome
-disable u = outcomeOf u (disabled u)
-
-abbrev pub accumulate : ThreadUsage → ℕ → Outcome
-accumulate u cycles = outcomeOf u (accumulated u cycles)
+use Rattle.usage.specs.Leaves.{sysEnableDecide, sysDisableDecide, startDecide, stopDecide}
+use Rattle.usage.specs.Says.{enableOutcome, disableOutcome, accumulateOutcome, applies}
 
 -- what enable ensures, but for an untracked record with a full count of windows
 pub record EnableEnsures (old : ThreadUsage) (after : Outcome) : Type 0 where
@@ -49,11 +39,11 @@ pub record AccumulateEnsures (old : ThreadUsage) (cycles : ℕ) (after : Outcome
 
 pub record ThreadClauses : Type 0 where
   pub new-idle : (newIdle .«track_usage» ≡ false) × (newIdle .«total_cycles» .0 ≡ 0) × (newIdle .«num_windows» ≡ 0)
-  pub enable-but-full : (u : ThreadUsage) → (u .«track_usage» ≡ true) ⊎ ((u .«track_usage» ≡ false) × (u .«num_windows» ≡ max32 → ⊥)) → EnableEnsures u (enable u)
+  pub enable-but-full : (u : ThreadUsage) → (u .«track_usage» ≡ true) ⊎ ((u .«track_usage» ≡ false) × (u .«num_windows» ≡ max32 → ⊥)) → EnableEnsures u (enableOutcome u)
   -- 01's replacement where upstream's clauses can't all hold
-  pub enable-full : (u : ThreadUsage) → u .«track_usage» ≡ false → u .«num_windows» ≡ max32 → enable u ≡ record { code = minus 139; usage = u }
-  pub disable-always : (u : ThreadUsage) → DisableEnsures u (disable u)
-  pub accumulate-always : (u : ThreadUsage) (cycles : ℕ) → AccumulateEnsures u cycles (accumulate u cycles)
+  pub enable-full : (u : ThreadUsage) → u .«track_usage» ≡ false → u .«num_windows» ≡ max32 → enableOutcome u ≡ record { code = minus 139; usage = u }
+  pub disable-always : (u : ThreadUsage) → DisableEnsures u (disableOutcome u)
+  pub accumulate-always : (u : ThreadUsage) (cycles : ℕ) → AccumulateEnsures u cycles (accumulateOutcome u cycles)
   pub sys-enable-decide : (sysEnableDecide true ≡ NoOp) × (sysEnableDecide false ≡ Apply)
   pub sys-disable-decide : (sysDisableDecide false ≡ NoOp) × (sysDisableDecide true ≡ Apply)
   pub start-decide : (startDecide true ≡ RecordStart) × (startDecide false ≡ RecordOnly)
@@ -84,9 +74,9 @@ pub record ThreadLemmas : Type 0 where
   pub lemma-average-zero-windows : (total : Cycles) → averageCycles total 0 .0 ≡ 0
   pub lemma-average-nonzero-windows : (total : Cycles) (windows : ℕ) → 0 < windows → averageCycles total windows .0 ≡ total .0 / windows
   -- US3: enable, then disable: the flag cleared, the total kept, windows one more, or as many where the record was tracked
-  pub lemma-enable-disable-roundtrip : (u : ThreadUsage) → u .«track_usage» ≡ false → (u .«num_windows» ≡ max32 → ⊥) → disable (enable u .usage) ≡ record { code = ok; usage = record { «track_usage» = false; «total_cycles» = u .«total_cycles»; «num_windows» = u .«num_windows» + 1 } }
-  pub lemma-enable-disable-tracked : (u : ThreadUsage) → u .«track_usage» ≡ true → disable (enable u .usage) ≡ record { code = ok; usage = record { «track_usage» = false; «total_cycles» = u .«total_cycles»; «num_windows» = u .«num_windows» } }
+  pub lemma-enable-disable-roundtrip : (u : ThreadUsage) → u .«track_usage» ≡ false → (u .«num_windows» ≡ max32 → ⊥) → disableOutcome (enableOutcome u .usage) ≡ record { code = ok; usage = record { «track_usage» = false; «total_cycles» = u .«total_cycles»; «num_windows» = u .«num_windows» + 1 } }
+  pub lemma-enable-disable-tracked : (u : ThreadUsage) → u .«track_usage» ≡ true → disableOutcome (enableOutcome u .usage) ≡ record { code = ok; usage = record { «track_usage» = false; «total_cycles» = u .«total_cycles»; «num_windows» = u .«num_windows» } }
   -- US1
   pub start-only-when-tracked : (flag : Bool) → (startDecide flag ≡ RecordStart) ↔ (flag ≡ true)
   -- US6
-  pub total-never-falls : (u : ThreadUsage) (cycles : ℕ) → u .«total_cycles» .0 ≤ accumulate u cycles .usage .«total_cycles» .0
+  pub total-never-falls : (u : ThreadUsage) (cycles : ℕ) → u .«total_cycles» .0 ≤ accumulateOutcome u cycles .usage .«total_cycles» .0

@@ -25,7 +25,7 @@ pub record Writes (room : ℕ) (before : List ℕ) (at : ℕ) (text : List ℕ) 
 pub record Writers : Type 0 where
   -- a line, and each of the last ones, asks for its own room; what of a line follows its number, for that of the longest
   pub text : (buffer : List ℕ) (at : ℕ) (text : List ℕ) → Writes (length text) buffer at text (writtenOf buffer at text) (putOf buffer at text)
-  pub line : (room : ℕ) (buffer : List ℕ) (at : ℕ) (text : List ℕ) → Writes room buffer at text (roomyWritten room buffer at text) (roomyPut room buffer at text)
+  pub rest : (room : ℕ) (buffer : List ℕ) (at : ℕ) (text : List ℕ) → Writes room buffer at text (roomyWritten room buffer at text) (roomyPut room buffer at text)
   pub rooms : (lineRoom ≡ 75) × (restRoom ≡ 54) × (endRoom ≡ 46)
   -- a label goes over what was put underneath it, in the room of its line
   pub label : (buffer : List ℕ) (at : ℕ) (l : Label) → at + 75 ≤ length buffer → (labelWritten buffer at l ≡ W.Accepted (at + length (labelText l))) × (labelPut buffer at l ≡ sets (sets buffer at (underneath l)) at (labelText l))

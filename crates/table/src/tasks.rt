@@ -64,7 +64,7 @@ pub fn task_of(decoded: Record) -> Task
     }
 }
 
-// Where the books and the table do not matter, none runs and there is no slot.
+// Where a row looks at neither the books nor the table, the promise names books in which none runs and a table of no slots.
 pub fn asks_nothing() -> Asked
     ensures { λ r. ⌜ r ≡ askedBy nothingBooked 0 T.Announce ⌝ }
 {

@@ -50,6 +50,10 @@ fuzz: kit
 	rt check replay replay_long
 	sh tests/reference.sh "$(N)" "$(SEED)" 10
 
+# Wrong programs in which definition, contract and code agree: a statement has to shut out each.
+together: kit
+	sh tests/together.sh
+
 # Times a million records against the reference, and counts instructions.
 bench: kit
 	sh tools/bench.sh
@@ -57,4 +61,4 @@ bench: kit
 clean:
 	rm -rf target
 
-.PHONY: all help kit cases replay replay_long firmware qemu test fuzz bench clean
+.PHONY: all help kit cases replay replay_long firmware qemu test fuzz together bench clean

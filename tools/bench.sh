@@ -16,8 +16,8 @@ trace=$bench/million.trace
 echo 'bench: proving replay_long, where that was not done yet'
 sh tools/native.sh replay_long "$bench/replay_long"
 
-# The same program for 64 threads: one number changed in a copy, in which everything is proved again.
-echo 'bench: proving everything again for 64 threads, which takes most of the time'
+# The same program for 64 threads: one number changed in a copy, in which every crate of it is proved again.
+echo 'bench: proving it all again for 64 threads, which takes most of the time'
 copy=$bench/threads64
 rm -rf "$copy"
 mkdir "$copy"

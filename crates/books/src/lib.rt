@@ -5,7 +5,7 @@ ghost use lib.Dec.{eqb};
 ghost use Rattle.books.specs.Entries.{charged, closeOf, stopOf, switchOf, altered, reopenOf, alterOf, enterOf, openOf};
 ghost use Rattle.books.specs.Running.{isRunning, stampOf, nothingBooked, noThread, unrecorded, past, busy, concerned};
 ghost use Rattle.books.specs.Enter.{entryOf};
-ghost use Rattle.books.specs.Says.{enteredWhy};
+ghost use Rattle.books.specs.Says.{enteredSays, enteredWhy};
 use error::Refusal;
 use units::Cycles;
 use usage::Changed;
@@ -41,7 +41,7 @@ pub enum Entered {
     Refused(Refusal),
 }
 
-pub fn stamp_of(reading: Cycles) -> u32
+fn stamp_of(reading: Cycles) -> u32
     ensures { λ r. ⌜ r ≡ stampOf (reading .0) ⌝ }
 {
     let low = reading.0 % 4294967296;
@@ -51,7 +51,7 @@ pub fn stamp_of(reading: Cycles) -> u32
     low as u32
 }
 
-pub fn runs(books: Books, thread: u32) -> bool
+fn runs(books: Books, thread: u32) -> bool
     ensures { λ r. ⌜ r ≡ isRunning books thread ⌝ }
 {
     (books.stamp != 0) & (books.running == thread)
@@ -204,6 +204,15 @@ fn enter_at(books: Books, usage: ThreadUsage, now: u32, operation: Operation) ->
 }
 
 impl Entered {
+    pub fn number(self) -> i32
+        ensures { λ r. ⌜ r ≡ enteredSays self .number ⌝ }
+    {
+        match self {
+            Entered::Accepted(_) => error::OK,
+            Entered::Refused(why) => why.number(),
+        }
+    }
+
     // For whoever has found it refused.
     pub fn refusal(self) -> Refusal
         ensures { λ r. ⌜ r ≡ enteredWhy self ⌝ }

@@ -5,7 +5,7 @@ ghost use Rattle.error.specs.Numbers.{max64};
 ghost use Rattle.counter.specs.Cycle.{runN, cleared};
 ghost use Rattle.counter.specs.Entries.{startedOf, ranOf, readingsOf, valueOf};
 ghost use Rattle.counter.specs.Readings.{goodPeriod, inRange, cyclesAbove};
-ghost use Rattle.counter.specs.Says.{ranSays, ranWhy, sampleReadWhy, valueSays};
+ghost use Rattle.counter.specs.Says.{ranSays, ranWhy, sampleReadSays, sampleReadWhy, valueSays};
 ghost use Rattle.counter.specs.Valid.{Valid};
 use error::Refusal;
 use units::Cycles;
@@ -191,6 +191,15 @@ pub fn readings(counter: Counter, p: u32, q: u32, r: u32) -> SampleRead
 }
 
 impl SampleRead {
+    pub fn number(self) -> i32
+        ensures { λ r. ⌜ r ≡ sampleReadSays self .number ⌝ }
+    {
+        match self {
+            SampleRead::Accepted(_) => error::OK,
+            SampleRead::Refused(why) => why.number(),
+        }
+    }
+
     // For whoever has found it refused.
     pub fn refusal(self) -> Refusal
         ensures { λ r. ⌜ r ≡ sampleReadWhy self ⌝ }

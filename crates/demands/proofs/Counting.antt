@@ -1,18 +1,21 @@
 -- The clock's onlooker counts as 01's counter does, run from setup and never looked at.
-use Prim.Native.Nat.{ℕ, _+_}
-use mathlib.Core.Path.{_≡_, sym, ap, _∙_, subst}
+use Prim.Native.Nat.{ℕ, _+_, _/_, _<_}
+use mathlib.Core.Path.{_≡_, refl, sym, ap, _∙_, subst}
 use mathlib.Core.Bool.{Bool, true, false, cond}
 use native.Mathlib.Omega.{arith}
 use Rattle.counter.specs.declared.Counter.{Counter}
 use Rattle.counter.specs.declared.Ran.the-variants as R
 use Rattle.counter.specs.Cycle.{freshCounter, runN, wraps, cleared}
 use Rattle.counter.specs.Entries.{ranOf}
+use Rattle.counter.proofs.Cycles.{wraps-div}
 use Rattle.counter.proofs.Running.{Alike, clearing, alike-run, alike-wraps, run-on, wraps-on, cycles-run, period-run}
 use Rattle.clock.specs.declared.Gaps.{Gaps}
 use Rattle.clock.specs.declared.Sampled.the-variants as S
 use Rattle.clock.specs.declared.Announced.{Announced}
+use Rattle.clock.specs.Timer.{GoodSetup}
 use Rattle.clock.specs.Sample.{cyclesOf, decision, sampleValue}
 use Rattle.clock.specs.Entries.{sampleOf}
+use Rattle.clock.proofs.Outcomes.{setup-facts}
 use Rattle.clock.proofs.Stretches.{atB, atC}
 use Rattle.clock.proofs.Run as clock
 use Rattle.clock.proofs.Steps.{announced-by}
@@ -109,3 +112,14 @@ module _ (period : ℕ) where
             one-wrap = let o = fair .one-wrap in omega arith;
             none-to-D = λ some. let none = fair .none-to-D (omega arith) in omega arith;
           }
+
+-- a counter from setup wraps once a period
+module _ (period tick : ℕ) (good : GoodSetup period tick) where
+  pub above : 0 < period
+  above = let facts = setup-facts period tick good in omega (arith, facts .least)
+
+  pub wraps-are : (n : ℕ) → wrapsBy period n ≡ n / period
+  wraps-are n =
+      let facts = setup-facts period tick good in
+      let least = facts .least in
+      wraps-div period n (freshCounter period) (record { period = refl; least = least; most = facts .most; low = omega (arith, least); high = omega arith }) ∙ ap (λ (k : ℕ). k / period) (omega arith)

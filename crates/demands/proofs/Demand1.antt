@@ -1,14 +1,15 @@
--- Demand 1: what no run from setup meets, and that in a fair run no sum is refused.
+-- Demand 1: what no run from setup meets, that in a fair run no sum is refused, and that no record changes how many threads there are.
 use Prim.Native.Nat.{ℕ, _+_, _≤_, _<_}
 use mathlib.Core.Path.{_≡_, refl, sym, ap, _∙_}
-use mathlib.Core.Bool.{Bool, true, false, not, _&&_, _||_}
-use mathlib.Core.List.{[], _∷_}
+use mathlib.Core.Bool.{Bool, true, false, cond, not, _&&_, _||_}
+use mathlib.Core.List.{List, [], _∷_}
 use mathlib.Core.Logic.{inl, inr}
 use native.Mathlib.Omega.{arith}
-use lib.ListN.{length}
-use lib.Dec.{eqb}
+use lib.ListN.{length, length-replicate}
+use lib.Dec.{leb, eqb}
 use borrow.Author.Tests.{le-ltb, eqb-true, ltb-false}
 use Rattle.error.proofs.Tests.{clash}
+use Rattle.error.proofs.Ordered.{by-outcome}
 use Rattle.error.specs.InOrder.{FirstIs, NoneHolds}
 use Rattle.error.specs.Numbers.{max32, max64}
 use Rattle.clock.specs.declared.Gaps.{Gaps}
@@ -28,27 +29,32 @@ use Rattle.ledger.proofs.Agreeing as ledger-runs
 use Rattle.ledger.proofs.Fitting.{sums-fit}
 use Rattle.trace.specs.declared.Record.{Record}
 use Rattle.trace.specs.declared.Record.the-variants as K
+use Rattle.trace.specs.declared.Decoded.{Decoded}
 use Rattle.trace.specs.declared.Decoded.the-variants as D
 use Rattle.trace.proofs.Bytes.{decodes}
+use Rattle.usage.specs.Formulas.{newIdle}
 use Rattle.machine.specs.declared.Machine.{Machine}
+use Rattle.machine.specs.declared.Stepped.{Stepped}
 use Rattle.table.specs.declared.Reason.the-variants as Why
 use Rattle.table.specs.declared.Outcome.the-variants as Told
+use Rattle.table.specs.declared.tasks.Task.{Task}
 use Rattle.table.specs.declared.tasks.Task.the-variants as T
 use Rattle.table.specs.declared.tasks.Then.the-variants as W
 use Rattle.table.specs.Task.{taskOf, askedBy}
-use Rattle.table.specs.Table.{malformed, columns}
+use Rattle.table.specs.Table.{malformed, columns, afterTouch}
 use Rattle.table.specs.Says.{outcomeSays}
-use Rattle.machine.specs.Step.{coreOf, fullRow, announceRows, lastRows, recordRows, rowsOf, stepOf}
+use Rattle.machine.specs.Step.{coreOf, slotsOf, fullRow, announceRows, lastRows, recordRows, rowsOf, withTimer, doneBy, acceptedBy, turnedAway, stepOf, freshMachine}
 use Rattle.machine.proofs.Passed as passed
 use Rattle.machine.proofs.Stepping as stepping
 use Rattle.machine.proofs.Stepping.{every-refusal}
 use Rattle.machine.proofs.Whole.{stays-whole}
-use Rattle.demands.specs.Trace.{doesOf, Watched, timeC, Fair, FairSample, watchAll, atSetup}
+use Rattle.demands.specs.Trace.{doesOf, happened, Watched, watching, timeC, Fair, FairSample, watch, watchAll, atSetup}
 use Rattle.demands.specs.Demand1.{FromSetup, NoSumRefused, Demand1}
+use Rattle.demands.specs.Terms.{threadSlots}
 use Rattle.demands.specs.RowNumbers.{RowNumbers}
 use Rattle.demands.proofs.Counting.{cycles-are}
 use Rattle.demands.proofs.Moving.{later}
-use Rattle.demands.proofs.Watching.{Same, announces, table-size, all-same, begin-same}
+use Rattle.demands.proofs.Watching.{Same, announces, seen-machine, operate-slots, table-size, all-same, begin-same}
 use Rattle.demands.proofs.Following.{True, reads-true, all-true, begin-true}
 
 row-numbers : RowNumbers
@@ -144,6 +150,34 @@ module _ {slots period tick : ℕ} (some : 0 < slots) (good : GoodSetup period t
       let there = rw (stepping.of-task m r) at e in
       no-sum r fair there (stepping.touches-sum m (taskOf r) there .1)
 
+-- no record changes how many threads the table has
+done-slots : (m : Machine) (task : Task) → slotsOf (doneBy m task .machine) ≡ slotsOf m
+unfolding doneBy
+done-slots m (T.Run p) = refl
+done-slots m (T.Sample g W.Tell) = refl
+done-slots m (T.Sample g (W.Operate op)) = operate-slots (m .ledger) _ op
+done-slots m T.Announce = refl
+done-slots m (T.Report i) = refl
+done-slots m (T.Setup s) = length-replicate (slotsOf m) newIdle
+
+accepted-slots : (m : Machine) (d : Decoded) → slotsOf (acceptedBy m d .machine) ≡ slotsOf m
+unfolding acceptedBy
+accepted-slots m (D.Accepted r) = done-slots m (taskOf r)
+accepted-slots m (D.Refused why) = refl
+
+step-slots : (m : Machine) (d : Decoded) → slotsOf (stepOf m d .machine) ≡ slotsOf m
+unfolding stepOf
+step-slots m d = by-outcome (turnedAway m (acceptedBy m d)) _ (λ (s : Stepped). slotsOf (s .machine) ≡ slotsOf m) (rowsOf m d) (λ why. kept (afterTouch why)) (λ none. accepted-slots m d)
+  where
+    kept : (touched : Bool) → slotsOf (cond touched (withTimer m (acceptedBy m d .machine .timer)) m) ≡ slotsOf m
+    kept true = refl
+    kept false = refl
+
+all-slots : (ds : List Decoded) (w : Watched) → slotsOf (watchAll stepOf ds w .machine) ≡ slotsOf (w .machine)
+unfolding watchAll
+all-slots [] w = refl
+all-slots (d ∷ ds) w = all-slots ds (watch stepOf d w) ∙ (ap slotsOf (seen-machine (happened d (stepOf (w .machine) d .outcome)) (stepOf (w .machine) d .machine) w) ∙ step-slots (w .machine) d)
+
 pub demand1 : Demand1 stepOf
 demand1 = record {
   decodes = decodes;
@@ -151,6 +185,7 @@ demand1 = record {
   kept = λ m d. every-refusal m d .1;
   numbers = row-numbers;
   stays-whole = stays-whole;
+  sixteen = λ ds i. ap (λ (n : ℕ). leb n i) (all-slots ds (watching (freshMachine threadSlots)));
   from-setup = λ slots period tick some good ds.
       let w = watchAll stepOf ds (atSetup stepOf slots period tick) in (
         from-setup some good w (all-same some good ds (atSetup stepOf slots period tick) (begin-same slots period tick good)),

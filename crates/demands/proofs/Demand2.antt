@@ -9,7 +9,11 @@ use Rattle.demands.specs.Demand2.{Demand2}
 use Rattle.demands.proofs.Leaves.{leaves-exact}
 use Rattle.demands.proofs.Entries.{entries-exact}
 use Rattle.demands.proofs.Readers.{readers}
+use Rattle.demands.proofs.Exports.{exports-read}
+use Rattle.demands.proofs.Lent.{by-hand}
 use Rattle.demands.proofs.Writers.{writers}
+use Rattle.demands.proofs.Changes.{changes-exact}
+use Rattle.demands.proofs.Terms.{terms-given}
 use Rattle.demands.proofs.UpstreamTimer.{timer-clauses, timer-lemmas}
 use Rattle.demands.proofs.UpstreamThread.{thread-clauses, thread-lemmas}
 use Rattle.demands.proofs.Numbers.{numbers}
@@ -29,6 +33,10 @@ demand2 = record {
   records = every-answer;
   record-refusals = exactly;
   readers = readers;
+  exports = exports-read;
+  by-hand = by-hand;
   writers = writers;
+  changes = changes-exact;
+  terms = terms-given;
   numbers = numbers;
 }

@@ -1,6 +1,8 @@
 -- Demand 3 over whole traces, from what the clock's and the ledger's runs are known to do.
-use Prim.Native.Nat.{ℕ, _+_, _*_, _<_}
+use Prim.Native.Nat.{ℕ, _+_, _*_, _≤_, _<_}
 use mathlib.Core.Path.{_≡_, refl, sym, ap, _∙_}
+use native.Mathlib.Nat.{mul-le-mul-right}
+use Rattle.systick.proofs.Bounds.{quotients-keep-order}
 use Rattle.clock.specs.declared.Gaps.{Gaps}
 use Rattle.clock.specs.declared.Timer.{Timer}
 use Rattle.clock.specs.declared.Announced.the-variants as N
@@ -22,9 +24,9 @@ use Rattle.table.specs.Task.{taskOf}
 use Rattle.machine.proofs.Accepting.{announcement-is}
 use Rattle.machine.proofs.Stepping as stepping
 use Rattle.machine.proofs.Stepping.{every-answer}
-use Rattle.demands.specs.Trace.{Watched, timeC, FairSample, watchAll, atSetup}
+use Rattle.demands.specs.Trace.{Watched, wrapsBy, timeC, FairSample, watchAll, atSetup}
 use Rattle.demands.specs.Demand3.{Announces, Always, Fairly, Demand3}
-use Rattle.demands.proofs.Counting.{cycles-are}
+use Rattle.demands.proofs.Counting.{cycles-are, above, wraps-are}
 use Rattle.demands.proofs.Watching.{Same, announces, same-tick, all-same, begin-same}
 use Rattle.demands.proofs.Following.{True, reads-true, all-true, begin-true}
 
@@ -58,11 +60,24 @@ module _ {slots period tick : ℕ} (some : 0 < slots) (good : GoodSetup period t
         total = refl;
       })
 
+  -- what is counted is the whole periods within the last reading, which is never above T at its C
+  abbrev counted : ℕ
+  counted = timer .clock .count .0 + timer .clock .overflow
+
+  last-is : timer .clock .last .0 ≡ world .read
+  last-is = ap (λ (t : Timer). t .clock .last .0) (same .timer) ∙ clock-runs.every-run period tick good (same .events) .always .last
+
+  no-wrap-twice : counted ≤ wrapsBy period (w .atC) * period
+  no-wrap-twice =
+      let below : timer .clock .last .0 ≤ w .atC = rw (last-is, ← (same .tracks .at-C)) (clock-runs.every-run period tick good (same .events) .always .never-ahead .below) in
+      rw (told .whole, wraps-are period tick good (w .atC)) (mul-le-mul-right period (quotients-keep-order _ _ period (above period tick good) below))
+
   always : Always stepOf period tick w
   always = record {
     announcement = announcement;
     cycles = ap (λ (t : Timer). t .counter .cycles .0) (same .timer) ∙ cycles-are period (w .ran) (w .atC) world (same .tracks);
     announced = same .told;
+    no-wrap-twice = no-wrap-twice;
     rise = same .rise;
   }
 
@@ -81,6 +96,9 @@ module _ {slots period tick : ℕ} (some : 0 < slots) (good : GoodSetup period t
       let near = ledger-runs.every-run slots some (same .entries) .2 (w .ran) (held .timely) in
       record {
         reads = ap (λ (t : Timer). t .clock .last .0) (same .timer) ∙ (run .always .last ∙ (run .faithful (held .fair) .reads ∙ same .tracks .at-C));
+        each-wrap-once =
+            let reads : w .machine .timer .clock .last .0 ≡ w .atC = last-is some good w same ∙ (run .faithful (held .fair) .reads ∙ same .tracks .at-C) in
+            told some good w same .whole ∙ rw (reads, wraps-are period tick good (w .atC)) refl;
         shows = shows;
         totals = λ i. rw (same .entered, held .threads) (near .threads i);
         chain = rw (held .threads, held .printed) (near .chain);

@@ -17,12 +17,12 @@ use Rattle.demands.proofs.Exactly.{by-rows}
 pub entries-exact : EntriesExact
 unfolding startedOf ranOf readingsOf valueOf setUp sampleOf announceOf reportOf
 entries-exact = record {
-  started = λ period. by-rows R.Accepted R.Refused _ _ (λ why e. clash (cc)) (λ r s e. cc);
-  run = λ c n. by-rows R.Accepted R.Refused _ _ (λ why e. clash (cc)) (λ r s e. cc);
-  readings = λ a p q r. by-rows Sample.Accepted Sample.Refused _ _ (λ why e. clash (cc)) (λ r s e. cc);
-  value = λ raw period. by-rows Read.Accepted Read.Refused _ _ (λ why e. clash (cc)) (λ r s e. cc);
-  set-up = λ period tick. by-rows U.Accepted U.Refused _ _ (λ why e. clash (cc)) (λ r s e. cc);
-  sample = λ t g. by-rows S.Accepted S.Refused _ _ (λ why e. clash (cc)) (λ r s e. cc);
-  announce = λ t. by-rows A.Accepted A.Refused _ _ (λ why e. clash (cc)) (λ r s e. cc);
-  report = λ l i. by-rows P.Accepted P.Refused _ _ (λ why e. clash (cc)) (λ r s e. cc);
+  started = λ period answer allowed. rw (allowed .2) (by-rows R.Accepted R.Refused _ _ (λ why e. clash (cc)) (λ r s e. cc));
+  run = λ c n answer allowed. rw (allowed .2) (by-rows R.Accepted R.Refused _ _ (λ why e. clash (cc)) (λ r s e. cc));
+  readings = λ a p q r answer allowed. rw (allowed .2) (by-rows Sample.Accepted Sample.Refused _ _ (λ why e. clash (cc)) (λ r s e. cc));
+  value = λ raw period answer allowed. rw (allowed .2) (by-rows Read.Accepted Read.Refused _ _ (λ why e. clash (cc)) (λ r s e. cc));
+  set-up = λ period tick answer allowed. rw (allowed .2) (by-rows U.Accepted U.Refused _ _ (λ why e. clash (cc)) (λ r s e. cc));
+  sample = λ t g answer allowed. rw (allowed .2) (by-rows S.Accepted S.Refused _ _ (λ why e. clash (cc)) (λ r s e. cc));
+  announce = λ t answer allowed. rw (allowed .2) (by-rows A.Accepted A.Refused _ _ (λ why e. clash (cc)) (λ r s e. cc));
+  report = λ l i answer allowed. rw (allowed .2) (by-rows P.Accepted P.Refused _ _ (λ why e. clash (cc)) (λ r s e. cc));
 }

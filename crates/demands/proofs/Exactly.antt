@@ -16,7 +16,6 @@ use Rattle.error.specs.InOrder.{Row, inOrder}
 use Rattle.error.specs.Said.{Said, accepted, refused}
 use Rattle.error.proofs.Ordered.{accepts, refuses, accepted-only, refused-only}
 use Rattle.demands.specs.Exact.{Exact, ByRows}
-use Rattle.demands.specs.Readers.{Reads}
 
 -- one number is not above another, or it is
 pub either : (a b : ℕ) → (a ≤ b) ⊎ (b < a)
@@ -49,11 +48,16 @@ module _ {Reason Answer Value : Type 0} (accept : Value → Answer) (refuse : Re
     accepted = (accepted-only refuse (accept value) apart rows, accepts refuse (accept value) rows);
   }
 
+-- what a definition says of an answer, case by case
+pub record SaysOf {Answer Value : Type 0} (accept : Value → Answer) (refuse : Refusal → Answer) (says : Answer → Said Value) (zeros : Value) : Type 0 where
+  pub of-accepted : (v : Value) → says (accept v) ≡ accepted v
+  pub of-refused : (why : Refusal) → says (refuse why) ≡ refused why zeros
+
 -- an exact answer as it is read: the numbers of the three differ
 apart : {n a b : ℤ} → (mag a ≡ mag b → ⊥) → n ≡ a → n ≡ b → ⊥
 apart differ p q = differ (ap mag (sym p ∙ q))
 
-module _ {Answer Value : Type 0} {accept : Value → Answer} {refuse : Refusal → Answer} {says : Answer → Said Value} {zeros : Value} (reads : Reads accept refuse says zeros) {outcome : Answer} {Fits Bad Over : Type 0} {value : Value} (exact : Exact accept refuse outcome Fits value Bad Over) where
+module _ {Answer Value : Type 0} {accept : Value → Answer} {refuse : Refusal → Answer} {says : Answer → Said Value} {zeros : Value} (reads : SaysOf accept refuse says zeros) {outcome : Answer} {Fits Bad Over : Type 0} {value : Value} (exact : Exact accept refuse outcome Fits value Bad Over) where
   pub said : Fits → says outcome ≡ accepted value
   said fits = ap says (exact .accepted .1 fits) ∙ reads .of-accepted value
 

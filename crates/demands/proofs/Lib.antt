@@ -1,7 +1,10 @@
 pub mod Exactly
 pub mod Leaves
 pub mod Entries
+pub mod Terms
+pub mod Changes
 pub mod Readers
+pub mod Exports
 pub mod Writers
 pub mod Numbers
 pub mod UpstreamTimer

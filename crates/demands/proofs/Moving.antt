@@ -46,7 +46,7 @@ use Rattle.table.specs.declared.tasks.Then.the-variants as W
 use Rattle.table.specs.Task.{taskOf}
 use Rattle.table.specs.Table.{malformed, afterTouch}
 use Rattle.machine.specs.declared.Stepped.{Stepped}
-use Rattle.machine.proofs.Making.{operationTells}
+use Rattle.machine.specs.Making.{operationTells}
 use Rattle.machine.specs.Step.{coreOf, announceRows, lastRows, recordRows, doneBy, stepOf}
 use Rattle.machine.proofs.Accepting.{announcement-is, Samples}
 use Rattle.machine.proofs.Stepping as stepping

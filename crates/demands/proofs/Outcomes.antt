@@ -29,7 +29,6 @@ use Rattle.usage.proofs.ThreadUsage.new_idle.Reads as usage-ThreadUsage-new-idl
 use Rattle.usage.proofs.Changed.number.Reads as usage-Changed-number
 use Rattle.usage.proofs.Changed.usage.Reads as usage-Changed-usage
 use Rattle.usage.proofs.Changed.refusal.Reads as usage-Changed-refusal
-use Rattle.usage.proofs.Changed.outcome.Reads as usage-Changed-outcome
 use Rattle.usage.proofs.is_tracked.Reads as usage-is-tracked
 use Rattle.usage.proofs.enabled.Reads as usage-enabled
 use Rattle.usage.proofs.disabled.Reads as usage-disabled
@@ -58,6 +57,7 @@ use Rattle.counter.proofs.Ran.refusal.Reads as counter-Ran-refusal
 use Rattle.counter.proofs.sample_cycles.Reads as counter-sample-cycles
 use Rattle.counter.proofs.readings.Reads as counter-readings
 use Rattle.counter.proofs.SampleRead.refusal.Reads as counter-SampleRead-refusal
+use Rattle.counter.proofs.SampleRead.number.Reads as counter-SampleRead-number
 use Rattle.counter.proofs.value_of.Reads as counter-value-of
 use Rattle.counter.proofs.ValueRead.number.Reads as counter-ValueRead-number
 use Rattle.counter.proofs.ValueRead.value.Reads as counter-ValueRead-value
@@ -79,10 +79,9 @@ use Rattle.clock.proofs.Announced.number.Reads as clock-Announced-number
 use Rattle.clock.proofs.Announced.refusal.Reads as clock-Announced-refusal
 use Rattle.clock.proofs.Announced.dticks.Reads as clock-Announced-dticks
 use Rattle.books.proofs.nothing_booked.Reads as books-nothing-booked
-use Rattle.books.proofs.stamp_of.Reads as books-stamp-of
-use Rattle.books.proofs.runs.Reads as books-runs
 use Rattle.books.proofs.enter.Reads as books-enter
 use Rattle.books.proofs.Entered.refusal.Reads as books-Entered-refusal
+use Rattle.books.proofs.Entered.number.Reads as books-Entered-number
 use Rattle.books.proofs.no_thread.Reads as books-no-thread
 use Rattle.books.proofs.unrecorded.Reads as books-unrecorded
 use Rattle.books.proofs.past.Reads as books-past
@@ -152,12 +151,6 @@ use Rattle.table.proofs.Outcome.number.Reads as table-Outcome-number
 use Rattle.table.proofs.Outcome.x.Reads as table-Outcome-x
 use Rattle.table.proofs.Outcome.y.Reads as table-Outcome-y
 use Rattle.table.proofs.malformed.Reads as table-malformed
-use Rattle.table.proofs.tasks.task_of.Reads as table-task-of
-use Rattle.table.proofs.tasks.asks_nothing.Reads as table-asks-nothing
-use Rattle.table.proofs.tasks.asks_cycles.Reads as table-asks-cycles
-use Rattle.table.proofs.tasks.asks_then.Reads as table-asks-then
-use Rattle.table.proofs.tasks.asks_report.Reads as table-asks-report
-use Rattle.table.proofs.tasks.asks_setup.Reads as table-asks-setup
 use Rattle.table.proofs.changes.change_of.Reads as changes-change-of
 use Rattle.table.proofs.changes.change_at.Reads as changes-change-at
 use Rattle.machine.proofs.Machine.core.Reads as machine-Machine-core
@@ -261,7 +254,6 @@ pub usage-outcomes :
     OneOutcome usage-Changed-number.Post ×
     OneOutcome usage-Changed-usage.Post ×
     OneOutcome usage-Changed-refusal.Post ×
-    OneOutcome usage-Changed-outcome.Post ×
     OneOutcome usage-is-tracked.Post ×
     OneOutcome usage-enabled.Post ×
     OneOutcome usage-disabled.Post ×
@@ -299,7 +291,6 @@ usage-outcomes = (
   once _,
   once _,
   once _,
-  once _,
 )
 
 pub counter-outcomes :
@@ -315,10 +306,12 @@ pub counter-outcomes :
     OneOutcome counter-sample-cycles.Post ×
     OneOutcome counter-readings.Post ×
     OneOutcome counter-SampleRead-refusal.Post ×
+    OneOutcome counter-SampleRead-number.Post ×
     OneOutcome counter-value-of.Post ×
     OneOutcome counter-ValueRead-number.Post ×
     OneOutcome counter-ValueRead-value.Post
 counter-outcomes = (
+  once _,
   once _,
   once _,
   once _,
@@ -376,17 +369,15 @@ clock-outcomes = (
 
 pub books-outcomes :
     OneOutcome books-nothing-booked.Post ×
-    OneOutcome books-stamp-of.Post ×
-    OneOutcome books-runs.Post ×
     OneOutcome books-enter.Post ×
     OneOutcome books-Entered-refusal.Post ×
+    OneOutcome books-Entered-number.Post ×
     OneOutcome books-no-thread.Post ×
     OneOutcome books-unrecorded.Post ×
     OneOutcome books-past.Post ×
     OneOutcome books-busy.Post ×
     OneOutcome books-concerned.Post
 books-outcomes = (
-  once _,
   once _,
   once _,
   once _,
@@ -428,20 +419,8 @@ pub table-outcomes :
     OneOutcome table-Outcome-number.Post ×
     OneOutcome table-Outcome-x.Post ×
     OneOutcome table-Outcome-y.Post ×
-    OneOutcome table-malformed.Post ×
-    OneOutcome table-task-of.Post ×
-    OneOutcome table-asks-nothing.Post ×
-    OneOutcome table-asks-cycles.Post ×
-    OneOutcome table-asks-then.Post ×
-    OneOutcome table-asks-report.Post ×
-    OneOutcome table-asks-setup.Post
+    OneOutcome table-malformed.Post
 table-outcomes = (
-  once _,
-  once _,
-  once _,
-  once _,
-  once _,
-  once _,
   once _,
   once _,
   once _,

@@ -10,7 +10,7 @@ use Rattle.error.specs.Numbers.{ok, minus, max32, max64}
 use Rattle.units.specs.declared.Cycles.{Cycles}
 use Rattle.usage.specs.Leaves.{enabled, accumulated, sysEnableDecide, sysDisableDecide, startDecide, stopDecide}
 use Rattle.usage.specs.Formulas.{elapsedStamps}
-use Rattle.usage.specs.Says.{outcomeOf, changedSays, kept, applies, enableOutcome, disableOutcome, accumulateOutcome}
+use Rattle.usage.specs.Says.{outcomeOf, changedSays, kept, sysTrackSays, enableOutcome, disableOutcome, accumulateOutcome}
 use Rattle.usage.specs.declared.ThreadUsage.{ThreadUsage}
 use Rattle.usage.specs.declared.Changed.{Changed}
 use Rattle.usage.specs.declared.Changed.the-variants as C
@@ -87,6 +87,7 @@ difference-back now usage0 a b = (omega arith, omega arith)
 pub thread-clauses : ThreadClauses
 thread-clauses = record {
   new-idle = (refl, refl, refl);
+  is-tracked = λ u r given. given .2;
   enable-but-full = enable-clauses;
   enable-full = full;
   disable-always = disable-clauses;
@@ -100,12 +101,12 @@ thread-clauses = record {
 }
 
 enable-twice : (now : Bool) → (sysEnabled now ≡ true) × (sysEnabled (sysEnabled now) ≡ sysEnabled now) × (sysEnableDecide (sysEnabled now) ≡ NoOp)
-unfolding applies
+unfolding sysTrackSays
 enable-twice true = (refl, refl, refl)
 enable-twice false = (refl, refl, refl)
 
 disable-twice : (now : Bool) → (sysDisabled now ≡ false) × (sysDisabled (sysDisabled now) ≡ sysDisabled now) × (sysDisableDecide (sysDisabled now) ≡ NoOp)
-unfolding applies
+unfolding sysTrackSays
 disable-twice true = (refl, refl, refl)
 disable-twice false = (refl, refl, refl)
 

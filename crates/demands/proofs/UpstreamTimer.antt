@@ -1,8 +1,8 @@
--- Every clause and lemma of upstream's systick.rs follows from the exact leaves and what is read off their answers.
+-- Every clause and lemma of upstream's systick.rs follows from the exact leaves and what their answers' definitions say.
 use Prim.Native.Nat.{ℕ, _+_, _-_, _*_, _/_, _≤_, _<_, zero-le}
 use mathlib.Core.Path.{_≡_, refl, sym, ap, _∙_}
 use mathlib.Core.Bool.{Bool, true, false, cond}
-use native.Mathlib.Nat.{le-div-iff-mul-le, div-mul-le-self, div-le-self, lt-div-mul-add, le-trans, mul-le-mul-right, zero-mul}
+use native.Mathlib.Nat.{div-mul-le-self, div-le-self, lt-div-mul-add, le-trans, mul-le-mul-right, zero-mul}
 use native.Mathlib.Omega.{arith}
 use lib.Dec.{leb, eqb}
 use borrow.Author.Tests.{le-leb, lt-leb, leb-false}
@@ -10,17 +10,38 @@ use Rattle.error.specs.Numbers.{max32, max64}
 use Rattle.units.specs.declared.Cycles.{Cycles}
 use Rattle.units.specs.declared.Ticks.{Ticks}
 use Rattle.systick.specs.Leaves.{elapsedCycles, difference, cyclesToTicks, ticksToCycles, maxTicks, maxLoad, mostTicks, elapsedDecide, announceDecide}
-use Rattle.systick.specs.Says.{elapsedCyclesSays, ticksToCyclesSays, elapsedDecideSays, announceDecideSays}
+use Rattle.systick.specs.Says.{elapsedCyclesSays, cyclesToTicksSays, ticksToCyclesSays, maxTicksSays, elapsedDecideSays, announceDecideSays}
 use Rattle.systick.specs.declared.ElapsedCycles.the-variants as E
 use Rattle.systick.specs.declared.CyclesToTicks.the-variants as T
 use Rattle.systick.specs.declared.TicksToCycles.the-variants as C
 use Rattle.systick.specs.declared.MaxTicks.the-variants as M
+use Rattle.systick.specs.declared.AnnounceDecide.the-variants as A
 use Rattle.systick.proofs.Outcomes as timer
-use Rattle.systick.proofs.Bounds.{product-within, product-over}
+use Rattle.systick.proofs.Bounds.{product-within, product-over, quotients-keep-order}
 use Rattle.demands.specs.UpstreamTimer.{ElapsedCyclesEnsures, TicksToCyclesEnsures, ElapsedDecideEnsures, AnnounceDecideEnsures, TimerClauses, TimerLemmas}
-use Rattle.demands.proofs.Exactly.{said, said-bad, said-over, fits, given}
-use Rattle.demands.proofs.Leaves.{leaves-exact}
-use Rattle.demands.proofs.Readers.{readers}
+use Rattle.demands.proofs.Exactly.{SaysOf, said, said-bad, said-over, fits, given}
+use Rattle.demands.proofs.Leaves.{difference-exact, quotient-exact, product-exact, most-exact, announce-exact, round-trip}
+
+-- what the answers' definitions say
+says-difference : SaysOf E.Accepted E.Refused elapsedCyclesSays 0
+unfolding elapsedCyclesSays
+says-difference = record { of-accepted = λ v. refl; of-refused = λ why. refl }
+
+says-ticks : SaysOf T.Accepted T.Refused cyclesToTicksSays (record { 0 = 0 })
+unfolding cyclesToTicksSays
+says-ticks = record { of-accepted = λ v. refl; of-refused = λ why. refl }
+
+says-cycles : SaysOf C.Accepted C.Refused ticksToCyclesSays (record { 0 = 0 })
+unfolding ticksToCyclesSays
+says-cycles = record { of-accepted = λ v. refl; of-refused = λ why. refl }
+
+says-most : SaysOf M.Accepted M.Refused maxTicksSays (record { 0 = 0 })
+unfolding maxTicksSays
+says-most = record { of-accepted = λ v. refl; of-refused = λ why. refl }
+
+says-announced : SaysOf A.Accepted A.Refused announceDecideSays (record { dticks = record { 0 = 0 }; «new_cycle_count» = record { 0 = 0 }; «new_announced_cycles» = record { 0 = 0 } })
+unfolding announceDecideSays
+says-announced = record { of-accepted = λ v. refl; of-refused = λ why. refl }
 
 -- a difference does not pass the load
 difference-within : (last current load : ℕ) → last ≤ load → current ≤ load → difference last current load ≤ load
@@ -33,22 +54,22 @@ difference-within last current load a b = by-test (leb current last) refl
 -- an accepted difference is the formula's, and both values were within the load
 accepted-difference : (last current load elapsed : ℕ) → elapsedCycles last current load ≡ E.Accepted elapsed → (last ≤ load) × (current ≤ load) × (elapsed ≡ difference last current load)
 accepted-difference last current load elapsed e =
-    let is = given (readers .elapsed-cycles) (leaves-exact .elapsed-cycles last current load) elapsed e in
+    let is = given says-difference (difference-exact last current load) elapsed e in
     (is .0 .0, is .0 .1, is .1)
 
 -- an accepted quotient is the formula's, of a tick above 0
 accepted-ticks : (cycles : Cycles) (tick : ℕ) (ticks : Ticks) → cyclesToTicks cycles tick ≡ T.Accepted ticks → (0 < tick) × (ticks .0 ≡ cycles .0 / tick)
 accepted-ticks cycles tick ticks e =
-    let is = given (readers .cycles-to-ticks) (leaves-exact .cycles-to-ticks cycles tick) ticks e in
+    let is = given says-ticks (quotient-exact cycles tick) ticks e in
     (is .0, ap (λ (t : Ticks). t .0) (is .1))
 
 accepted-cycles : (ticks : Ticks) (tick : ℕ) (cycles : Cycles) → ticksToCycles ticks tick ≡ C.Accepted cycles → (ticks .0 * tick ≤ max64) × (cycles .0 ≡ ticks .0 * tick)
 accepted-cycles ticks tick cycles e =
-    let is = given (readers .ticks-to-cycles) (leaves-exact .ticks-to-cycles ticks tick) cycles e in
+    let is = given says-cycles (product-exact ticks tick) cycles e in
     (is .0, ap (λ (c : Cycles). c .0) (is .1))
 
 accepted-most : (tick : ℕ) (ticks : Ticks) → maxTicks tick ≡ M.Accepted ticks → ticks .0 ≡ mostTicks tick
-accepted-most tick ticks e = ap (λ (t : Ticks). t .0) (given (readers .max-ticks) (leaves-exact .max-ticks tick) ticks e .1)
+accepted-most tick ticks e = ap (λ (t : Ticks). t .0) (given says-most (most-exact tick) ticks e .1)
 
 most-fits : (tick : ℕ) → mostTicks tick * tick ≤ maxLoad
 most-fits tick = by-test (eqb (maxLoad / tick) 0)
@@ -59,12 +80,9 @@ most-fits tick = by-test (eqb (maxLoad / tick) 0)
         let fewer : maxLoad / tick - 1 ≤ maxLoad / tick = omega arith in
         le-trans (mul-le-mul-right tick fewer) (div-mul-le-self maxLoad tick)
 
-quotients-keep-order : (a b k : ℕ) → 0 < k → a ≤ b → a / k ≤ b / k
-quotients-keep-order a b k p h = (le-div-iff-mul-le p) .1 (le-trans (div-mul-le-self a k) h)
-
 elapsed-clauses : (last current load : ℕ) → last ≤ load → current ≤ load → ElapsedCyclesEnsures last current load (elapsedCyclesSays (elapsedCycles last current load))
 elapsed-clauses last current load a b =
-    let said = said (readers .elapsed-cycles) (leaves-exact .elapsed-cycles last current load) (a, b) in
+    let said = said says-difference (difference-exact last current load) (a, b) in
     let is = ap (λ s. s .value) said in
     record {
       accepted = ap (λ s. s .number) said;
@@ -74,8 +92,9 @@ elapsed-clauses last current load a b =
     }
 
 decide-clauses : (val1 val2 : ℕ) (flag : Bool) (load overflow : ℕ) → val2 ≤ load → overflow + load ≤ max32 → load - val2 + overflow + load ≤ max32 → ElapsedDecideEnsures val1 val2 flag load overflow (elapsedDecideSays (elapsedDecide val1 val2 flag load overflow))
+unfolding elapsedDecideSays
 decide-clauses val1 val2 flag load overflow a b h =
-    let said = said (readers .elapsed-decide .0) (leaves-exact .elapsed-decide val1 val2 flag load overflow) (a, h) in
+    let said = ap elapsedDecideSays (timer.decided val1 val2 flag load overflow a h) in
     let is = ap (λ s. s .value) said in
     record {
       accepted = ap (λ s. s .number) said;
@@ -86,8 +105,8 @@ decide-clauses val1 val2 flag load overflow a b h =
 
 announce-clauses : (count announced : Cycles) (overflow tick : ℕ) → 0 < tick → count .0 + overflow ≤ max64 → announced .0 ≤ count .0 + overflow → AnnounceDecideEnsures count announced overflow tick (announceDecideSays (announceDecide count announced overflow tick))
 announce-clauses count announced overflow tick p a b =
-    let exact = leaves-exact .announce-decide count announced overflow tick in
-    let reads = readers .announce-decide .0 in
+    let exact = announce-exact count announced overflow tick in
+    let reads = says-announced in
     record {
       counted = λ n. ap (λ s. s .value .«new_cycle_count» .0) (said reads exact (fits reads exact n));
       ticks = λ n. rw (said reads exact (fits reads exact n)) refl;
@@ -96,8 +115,8 @@ announce-clauses count announced overflow tick p a b =
 product-clauses : (ticks : Ticks) (tick : ℕ) → TicksToCyclesEnsures ticks tick (ticksToCyclesSays (ticksToCycles ticks tick))
 unfolding ticksToCyclesSays
 product-clauses ticks tick =
-    let exact = leaves-exact .ticks-to-cycles ticks tick in
-    let reads = readers .ticks-to-cycles in
+    let exact = product-exact ticks tick in
+    let reads = says-cycles in
     record {
       no-tick = λ e. let is = ap ticksToCyclesSays (timer.cycles-of-nothing ticks tick e) in (ap (λ said. said .number) is, ap (λ said. said .value .0) is);
       none = λ p h. ap (λ s. s .number) (said-over reads exact (product-over max64 (ticks .0) tick p h));
@@ -109,7 +128,7 @@ back-again : (ticks : Ticks) (tick : ℕ) → 0 < tick → ticks .0 ≤ max64 / 
 unfolding ticksToCyclesSays
 back-again ticks tick p h =
     let given = timer.cycles-given ticks tick (product-within max64 (ticks .0) tick p h) in
-    leaves-exact .round-trip ticks tick (ticksToCyclesSays (ticksToCycles ticks tick) .value) p
+    round-trip ticks tick (ticksToCyclesSays (ticksToCycles ticks tick) .value) p
     (given ∙ ap C.Accepted (sym (ap (λ a. ticksToCyclesSays a .value) given)))
 
 truncation : (cycles : Cycles) (tick : ℕ) (ticks : Ticks) → cycles .0 ≤ max64 → cyclesToTicks cycles tick ≡ T.Accepted ticks → (ticksToCycles ticks tick ≡ C.Accepted (record { 0 = ticks .0 * tick })) × (ticks .0 * tick ≤ cycles .0) × (cycles .0 < ticks .0 * tick + tick)
@@ -122,14 +141,14 @@ truncation cycles tick ticks h e =
 pub timer-clauses : TimerClauses
 timer-clauses = record {
   elapsed-cycles = elapsed-clauses;
-  cycles-to-ticks = λ cycles tick. let exact = leaves-exact .cycles-to-ticks cycles tick in record {
-    none = λ e. ap (λ s. s .number) (said-bad (readers .cycles-to-ticks) exact e);
-    some = λ p. let is = said (readers .cycles-to-ticks) exact p in (ap (λ s. s .number) is, ap (λ s. s .value .0) is);
+  cycles-to-ticks = λ cycles tick. let exact = quotient-exact cycles tick in record {
+    none = λ e. ap (λ s. s .number) (said-bad says-ticks exact e);
+    some = λ p. let is = said says-ticks exact p in (ap (λ s. s .number) is, ap (λ s. s .value .0) is);
   };
   ticks-to-cycles = product-clauses;
-  max-ticks = λ tick. let exact = leaves-exact .max-ticks tick in record {
-    none = λ e. ap (λ s. s .number) (said-bad (readers .max-ticks) exact e);
-    some = λ p. ap (λ s. s .number) (said (readers .max-ticks) exact p);
+  max-ticks = λ tick. let exact = most-exact tick in record {
+    none = λ e. ap (λ s. s .number) (said-bad says-most exact e);
+    some = λ p. ap (λ s. s .number) (said says-most exact p);
   };
   elapsed-decide = decide-clauses;
   announce-decide = announce-clauses;

@@ -104,7 +104,7 @@ unfolding storedIn
 stored-slots l k (E.Accepted e) = length-set (l .threads) k (e .usage)
 stored-slots l k (E.Refused why) = refl
 
-operate-slots : (l : Ledger) (reading : Cycles) (op : Operation) → length (operateOf l reading op .ledger .threads) ≡ length (l .threads)
+pub operate-slots : (l : Ledger) (reading : Cycles) (op : Operation) → length (operateOf l reading op .ledger .threads) ≡ length (l .threads)
 unfolding operateOf
 operate-slots l reading op = by-outcome (refusedWith l) _ (λ (x : Ledgered). length (x .ledger .threads) ≡ length (l .threads)) (operateTests l op) (λ why. refl) (λ none. stored _)
   where

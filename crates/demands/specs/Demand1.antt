@@ -3,9 +3,11 @@ use Prim.Native.Nat.{ℕ, _<_}
 use mathlib.Core.Path.{_≡_}
 use mathlib.Core.Bool.{true}
 use mathlib.Core.List.{List}
+use lib.Dec.{leb}
 use Rattle.error.specs.Numbers.{max32}
 use Rattle.clock.specs.declared.Gaps.{Gaps}
 use Rattle.clock.specs.Timer.{GoodSetup}
+use Rattle.books.specs.Running.{noThread}
 use Rattle.ledger.specs.Records.{threadRecord}
 use Rattle.trace.specs.declared.Record.{Record}
 use Rattle.trace.specs.declared.Record.the-variants as K
@@ -17,8 +19,10 @@ use Rattle.table.specs.declared.Values.{Values}
 use Rattle.table.specs.declared.Outcome.the-variants as Told
 use Rattle.machine.specs.declared.Machine.{Machine}
 use Rattle.machine.specs.declared.Stepped.{Stepped}
+use Rattle.machine.specs.Step.{slotsOf, freshMachine}
 use Rattle.machine.specs.Laws.{Whole, Exactly, KeptByRefusal}
-use Rattle.demands.specs.Trace.{Watched, Fair, doesOf, watchAll, atSetup, FairTrace}
+use Rattle.demands.specs.Trace.{Watched, Fair, doesOf, watching, watchAll, atSetup, FairTrace}
+use Rattle.demands.specs.Terms.{threadSlots}
 use Rattle.demands.specs.RowNumbers.{RowNumbers}
 
 module _ (step : Machine → Decoded → Stepped) (period : ℕ) where
@@ -46,6 +50,8 @@ pub record Demand1 (step : Machine → Decoded → Stepped) : Type 0 where
   pub numbers : RowNumbers
   -- no record, accepted or refused, makes a state malformed that was not
   pub stays-whole : (m : Machine) (d : Decoded) → Whole m → Whole (step m d .machine)
+  -- there are sixteen threads: after any records from a fresh machine, a thread is past the table exactly from number 16 on
+  pub sixteen : (ds : List Decoded) (i : ℕ) → noThread (slotsOf (watchAll step ds (watching (freshMachine threadSlots)) .machine)) i ≡ leb threadSlots i
   pub from-setup :
       (slots period tick : ℕ) → 0 < slots → GoodSetup period tick → (ds : List Decoded) →
       let w = watchAll step ds (atSetup step slots period tick) in

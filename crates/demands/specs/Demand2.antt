@@ -9,12 +9,16 @@ use Rattle.machine.specs.Laws.{Exactly, EveryAnswer}
 use Rattle.demands.specs.Leaves.{LeavesExact}
 use Rattle.demands.specs.Entries.{EntriesExact}
 use Rattle.demands.specs.Readers.{Readers}
+use Rattle.demands.specs.Exports.{ExportsRead}
+use Rattle.demands.specs.Lent.{ByHand}
 use Rattle.demands.specs.Writers.{Writers}
+use Rattle.demands.specs.Changes.{ChangesExact}
+use Rattle.demands.specs.Terms.{TermsGiven}
 use Rattle.demands.specs.UpstreamTimer.{TimerClauses, TimerLemmas}
 use Rattle.demands.specs.UpstreamThread.{ThreadClauses, ThreadLemmas}
 use Rattle.demands.specs.Numbers.{Numbers}
 
-pub record Demand2 (step : Machine → Decoded → Stepped) : Type 0 where
+pub record Demand2 (step : Machine → Decoded → Stepped) : Type 2 where
   -- Every upstream clause follows from ours, or 01 names what replaces it.
   pub timer-clauses : TimerClauses
   pub timer-lemmas : TimerLemmas
@@ -31,7 +35,12 @@ pub record Demand2 (step : Machine → Decoded → Stepped) : Type 0 where
   pub entry-of-one-record : EveryEntry
   pub records : EveryAnswer step
   pub record-refusals : (m : Machine) (d : Decoded) → Exactly step m d
-  -- as it is read off an answer, and as it is put into a buffer.
+  -- as it is read off an answer, handed to C as plain numbers, done to a lent record, and put into a buffer;
   pub readers : Readers
+  pub exports : ExportsRead
+  pub by-hand : ByHand
   pub writers : Writers
+  -- and of every other public function.
+  pub changes : ChangesExact
+  pub terms : TermsGiven
   pub numbers : Numbers

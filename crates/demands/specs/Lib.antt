@@ -1,11 +1,15 @@
 pub mod Exact
 pub mod Leaves
 pub mod Entries
+pub mod Terms
+pub mod Changes
 pub mod Readers
+pub mod Exports
 pub mod Writers
 pub mod Numbers
 pub mod UpstreamTimer
 pub mod UpstreamThread
+pub mod Contract
 pub mod Outcome
 pub mod Lent
 pub mod Trace

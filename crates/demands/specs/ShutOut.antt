@@ -212,7 +212,7 @@ tellsAgain = leaving (λ m r n. cond (eqb (kind r) 1) (withAnnounced n 0) n)
 abbrev neverSamples : Machine → Decoded → Stepped
 neverSamples = leaving (λ m r n. cond (eqb (kind r) 9) (further n 4294967295) n)
 
-pub record ShutOut : Type 0 where
+pub record ShutOut : Type 2 where
   pub refuser-falls : Demand1 refuser → ⊥
   pub frozen-falls : Demand3 frozen → ⊥
   pub restarting-falls : Demand3 restarting → ⊥

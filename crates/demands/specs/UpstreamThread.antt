@@ -1,4 +1,4 @@
--- Evidence: upstream's clauses and lemmas of usage.rs, each over our definition. They follow from 01's formulas.
+-- Evidence: upstream's clauses and lemmas of usage.rs, each over our definition, `is-tracked` over its contract. They follow from 01's formulas.
 use Prim.Native.Nat.{ℕ, _+_, _/_, _%_, _^_, _≤_, _<_}
 use mathlib.Core.Path.{_≡_}
 use mathlib.Core.Bool.{Bool, true, false, cond}
@@ -13,7 +13,9 @@ use Rattle.usage.specs.declared.StartDecision.the-variants.{RecordStart, Record
 use Rattle.usage.specs.declared.StopDecision.the-variants.{Accumulate, Skip}
 use Rattle.usage.specs.Formulas.{newIdle, averageCycles, elapsedStamps}
 use Rattle.usage.specs.Leaves.{sysEnableDecide, sysDisableDecide, startDecide, stopDecide}
-use Rattle.usage.specs.Says.{enableOutcome, disableOutcome, accumulateOutcome, applies}
+use Rattle.usage.proofs.is_tracked.Reads as usage-is-tracked
+use Rattle.demands.specs.Contract.{Every}
+use Rattle.usage.specs.Says.{enableOutcome, disableOutcome, accumulateOutcome, sysTrackSays}
 
 -- what enable ensures, but for an untracked record with a full count of windows
 pub record EnableEnsures (old : ThreadUsage) (after : Outcome) : Type 0 where
@@ -39,6 +41,7 @@ pub record AccumulateEnsures (old : ThreadUsage) (cycles : ℕ) (after : Outcome
 
 pub record ThreadClauses : Type 0 where
   pub new-idle : (newIdle .«track_usage» ≡ false) × (newIdle .«total_cycles» .0 ≡ 0) × (newIdle .«num_windows» ≡ 0)
+  pub is-tracked : (u : ThreadUsage) → Every usage-is-tracked.Post (u, tt) (λ r. r ≡ u .«track_usage»)
   pub enable-but-full : (u : ThreadUsage) → (u .«track_usage» ≡ true) ⊎ ((u .«track_usage» ≡ false) × (u .«num_windows» ≡ max32 → ⊥)) → EnableEnsures u (enableOutcome u)
   -- 01's replacement where upstream's clauses can't all hold
   pub enable-full : (u : ThreadUsage) → u .«track_usage» ≡ false → u .«num_windows» ≡ max32 → enableOutcome u ≡ record { code = minus 139; usage = u }
@@ -54,7 +57,7 @@ pub record ThreadClauses : Type 0 where
 
 -- whether the system tracks after a decision, toward `wanted`, is carried out
 abbrev pub carriedOut : SysTrackDecision → Bool → Bool → Bool
-carriedOut decision wanted now = cond (applies decision) wanted now
+carriedOut decision wanted now = cond (sysTrackSays decision .value) wanted now
 
 abbrev pub sysEnabled : Bool → Bool
 sysEnabled now = carriedOut (sysEnableDecide now) true now

@@ -1,4 +1,4 @@
--- Evidence: upstream's clauses and lemmas of systick.rs, each over our definition, under upstream's own requires. They follow from `LeavesExact` and `Readers`.
+-- Evidence: upstream's clauses and lemmas of systick.rs, each over our definition, under upstream's own requires. They follow from the laws that `LeavesExact` rests on and from what the answers' definitions say.
 use Prim.Native.Nat.{ℕ, _+_, _-_, _*_, _/_, _≤_, _<_}
 use mathlib.Core.Path.{_≡_}
 use mathlib.Core.Bool.{Bool, true, false, _||_}

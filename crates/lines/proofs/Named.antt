@@ -8,14 +8,14 @@ use native.Mathlib.Omega.{arith}
 use lib.ListN.{length, take, drop, set, replicate}
 use lib.Seq.{sets, sets-eq, set-set, length-sets, length-take-le, take-append-seam}
 use lib.Dec.{ltb, leb, eqb}
-use borrow.Author.Tests.{le-leb, eq-eqb, ne-eqb, ltb-true, ltb-false, leb-false, eqb-false}
+use borrow.Author.Tests.{le-leb, lt-leb, le-ltb, eq-eqb, ne-eqb, ltb-true, ltb-false, leb-false, eqb-false}
 use Rattle.error.specs.Numbers.{max64}
 use Rattle.error.proofs.Tests.{clash}
 use Rattle.lines.specs.declared.label.Label.{Label}
 use Rattle.lines.specs.Text.{decimal}
 use Rattle.lines.specs.Writing.{two}
 use Rattle.lines.specs.Naming.{bare, spelt, ofParts, labelOf, nextLabel, unusable, joined, labelText, underneath, Named}
-use Rattle.lines.proofs.Decimal.{by-two, size-most}
+use Rattle.lines.proofs.Decimal.{by-two, some-digits, size-most}
 use Rattle.lines.proofs.Stores.{in-parts, run-sooner}
 
 -- a run whose first byte is put anew
@@ -126,3 +126,72 @@ underneath-short l n named = by-test (unusable l)
     by-test : (b : Bool) → length (cond b [] (l .text)) ≤ 8
     by-test true = omega arith
     by-test false = let h = named .long in omega arith
+
+-- a label of two parts has them, whether its text is kept or not, and the next one is that of the next parts
+next-parts : (head pair : ℕ) → nextLabel (ofParts head pair) ≡ cond (ltb pair 99) (ofParts head (pair + 1)) (cond (eqb head max64) (ofParts head pair) (ofParts (head + 1) 0))
+unfolding ofParts nextLabel
+next-parts head pair = by-test (eqb head 0 || leb 100000000 head)
+  where
+    by-test : (none : Bool) → nextLabel (cond none (bare head pair) (spelt head pair)) ≡ cond (ltb pair 99) (cond none (bare head (pair + 1)) (spelt head (pair + 1))) (cond (eqb head max64) (cond none (bare head pair) (spelt head pair)) (ofParts (head + 1) 0))
+    by-test true = refl
+    by-test false = refl
+
+-- the label after a number's is the next number's
+pub next-of : (n : ℕ) → n < 100 * max64 + 99 → nextLabel (labelOf n) ≡ labelOf (n + 1)
+unfolding labelOf
+next-of n below = next-parts (n / 100) (n % 100) ∙ by-test (ltb (n % 100) 99) refl
+  where
+    by-test : (b : Bool) → ltb (n % 100) 99 ≡ b → cond b (ofParts (n / 100) (n % 100 + 1)) (cond (eqb (n / 100) max64) (ofParts (n / 100) (n % 100)) (ofParts (n / 100 + 1) 0)) ≡ ofParts ((n + 1) / 100) ((n + 1) % 100)
+    by-test true e =
+        let less = ltb-true (n % 100) 99 e in
+        let head : (n + 1) / 100 ≡ n / 100 = omega (arith, less) in
+        let pair : (n + 1) % 100 ≡ n % 100 + 1 = omega (arith, less) in
+        rw (head, pair) refl
+    by-test false e =
+        let more = ltb-false (n % 100) 99 e in
+        let head : (n + 1) / 100 ≡ n / 100 + 1 = omega (arith, more) in
+        let pair : (n + 1) % 100 ≡ 0 = omega (arith, more) in
+        rw (ne-eqb (n / 100) max64 (λ q. omega (arith, below, more, q)), head, pair) refl
+
+-- and the last of all stays
+pub last-stays : nextLabel (labelOf (100 * max64 + 99)) ≡ labelOf (100 * max64 + 99)
+unfolding labelOf ofParts nextLabel
+last-stays = refl
+
+-- a label's text is kept only where its head has one digit to eight
+kept-text : (head pair : ℕ) → pair ≤ 99 → unusable (ofParts head pair) ≡ eqb head 0 || leb 100000000 head
+unfolding ofParts unusable
+kept-text head pair h = by-test (eqb head 0) (leb 100000000 head) refl refl
+  where
+    by-test : (s t : Bool) → eqb head 0 ≡ s → leb 100000000 head ≡ t → unusable (cond (s || t) (bare head pair) (spelt head pair)) ≡ s || t
+    by-test true t d e = refl
+    by-test false true d e = refl
+    by-test false false d e =
+        let few : length (decimal head) ≤ 8 = size-most 7 head (leb-false 100000000 head e) in
+        rw (ne-eqb (length (decimal head)) 0 (λ q. let some = some-digits head in omega (arith, some, q)), le-ltb _ _ few, le-ltb _ _ h) refl
+
+bare-parts : (head pair : ℕ) → 100000000 ≤ head → ofParts head pair ≡ bare head pair
+unfolding ofParts
+bare-parts head pair h = rw (ne-eqb head 0 (λ q. omega (arith, h, q)), le-leb _ _ h) refl
+
+-- what a number's label puts before its text, and the text
+pub underneath-of : (n : ℕ) → underneath (labelOf n) ≡ cond (eqb (n / 100) 0 || leb 100000000 (n / 100)) [] (sets (replicate 8 0) 0 (decimal (n / 100)))
+unfolding labelOf ofParts underneath
+underneath-of n = rw (kept-text (n / 100) (n % 100) (omega arith)) (by-test (eqb (n / 100) 0 || leb 100000000 (n / 100)) refl)
+  where
+    by-test : (b : Bool) → eqb (n / 100) 0 || leb 100000000 (n / 100) ≡ b → cond b [] (ofParts (n / 100) (n % 100) .text) ≡ cond b [] (sets (replicate 8 0) 0 (decimal (n / 100)))
+    by-test true e = refl
+    by-test false e = rw e refl
+
+pub text-of : (n : ℕ) → labelText (labelOf n) ≡ decimal (cond (ltb max64 n) 0 n) ++ 32 ∷ []
+unfolding labelOf labelText joined unusable
+text-of n = by-test (ltb max64 n) refl
+  where
+    by-test : (b : Bool) → ltb max64 n ≡ b → labelText (labelOf n) ≡ decimal (cond b 0 n) ++ 32 ∷ []
+    by-test false e = named-text (labelOf n) n (of-named n) (ltb-false max64 n e)
+    by-test true e =
+        let above = ltb-true max64 n e in
+        let large : 100000000 ≤ n / 100 = omega (arith, above) in
+        let whole : max64 < 100 * (n / 100) + n % 100 = omega (arith, above) in
+        let bare-one : ofParts (n / 100) (n % 100) ≡ bare (n / 100) (n % 100) = bare-parts (n / 100) (n % 100) large in
+        rw (bare-one, lt-leb _ _ whole) refl

@@ -1,4 +1,4 @@
--- Inside: a record's number, kept as text from line to line: what is kept, what is put, and when a label is a number's. `Readers` and `Writers` (crates/demands/specs) say what a label reads as and what is put.
+-- Inside: a record's number, kept as text from line to line: what is kept, what is put, and when a label is a number's. `Writers` (crates/demands/specs/Writers.antt) says what is put of a number's label, and that the next label is the next number's.
 use Prim.Native.Nat.{ℕ, _+_, _*_, _/_, _%_, _≤_, _<_}
 use mathlib.Core.Path.{_≡_}
 use mathlib.Core.Bool.{Bool, cond, _||_}

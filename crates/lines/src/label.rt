@@ -10,13 +10,14 @@ use crate::digits::put_long;
 use crate::digits::put_two;
 use error::Refusal;
 
+// Made by `of` and `next` alone.
 pub struct Label {
     // The number without its last two digits, and those.
-    pub head: u64,
-    pub pair: u64,
+    head: u64,
+    pair: u64,
     // So many bytes of the text are the head's digits; 0 where they are not kept.
-    pub size: usize,
-    pub text: [u8; 8],
+    size: usize,
+    text: [u8; 8],
 }
 
 // A head of one digit to eight is kept as text.

@@ -1,6 +1,5 @@
 pub mod Passed
 pub mod Accepting
-pub mod Making
 pub mod Tying
 pub mod Stepping
 pub mod InPlace

@@ -36,7 +36,7 @@ use Rattle.machine.specs.declared.Machine.{Machine}
 use Rattle.machine.specs.declared.Stepped.{Stepped}
 use Rattle.machine.specs.Step.{coreOf, slotsOf, announceRows, lastRows, taskRows, recordRows, rowsOf, withTimer, Done, doneBy, acceptedBy, steppedTo, turnedAway, stepOf}
 use Rattle.machine.proofs.Passed.{Passed, passed, none-holds, before-sum}
-use Rattle.machine.proofs.Making.{operationTells, enteredBy}
+use Rattle.machine.specs.Making.{operationTells, enteredBy}
 use Rattle.machine.specs.Laws.{Operates, Exactly, KeptByRefusal, EveryAnswer}
 use Rattle.machine.proofs.Accepting.{Runs, Samples, Accepts, let-through}
 use Rattle.machine.proofs.Tying.{operation-made}

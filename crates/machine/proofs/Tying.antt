@@ -36,7 +36,7 @@ use Rattle.table.specs.Change.{ranChange, sampledChange, announcedChange, setUp
 use Rattle.table.specs.Says.{announcementTells}
 use Rattle.machine.specs.declared.Machine.{Machine}
 use Rattle.machine.specs.Step.{coreOf, slotsOf, announceRows, fullRow, lastRows, recordRows, withTimer, answers, afterOperation, doneBy, acceptedBy, steppedTo, turnedAway, stepOf}
-use Rattle.machine.proofs.Making.{turned, operationTells, enteredBy, reportedBy, madeOf}
+use Rattle.machine.specs.Making.{turned, operationTells, enteredBy, reportedBy, madeOf}
 use Rattle.machine.proofs.Passed.{Passed, passed}
 use Rattle.machine.proofs.Accepting.{recorded-of, announcement-is, Accepts, let-through}
 

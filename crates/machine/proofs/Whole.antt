@@ -37,7 +37,7 @@ use Rattle.table.specs.Task.{taskOf, askedBy}
 use Rattle.table.specs.Table.{malformed, table}
 use Rattle.machine.specs.declared.Machine.{Machine}
 use Rattle.machine.specs.Step.{coreOf, slotsOf, stepOf}
-use Rattle.machine.proofs.Making.{enteredBy, reportedBy, madeOf}
+use Rattle.machine.specs.Making.{enteredBy, reportedBy, madeOf}
 use Rattle.machine.proofs.Tying.{operation-stored, step-made}
 use Rattle.table.specs.declared.changes.Change.{Change}
 use Rattle.table.specs.declared.changes.Change.the-variants as X

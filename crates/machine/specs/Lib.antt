@@ -1,3 +1,4 @@
 pub mod Step
+pub mod Making
 pub mod Laws
 pub mod Shown

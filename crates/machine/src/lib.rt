@@ -15,7 +15,6 @@ use table::Reason;
 use table::Values;
 use table::changes::Change;
 use table::changes::change_of;
-use table::malformed;
 use trace::Decoded;
 use units::Cycles;
 use usage::ThreadUsage;
@@ -101,8 +100,7 @@ pub fn step(machine: Machine, decoded: Decoded) -> Stepped
     let ledger = machine.ledger;
     let clock = machine.timer.clock;
     let nothing = Values { x: 0, y: 0 };
-    let broken = malformed(core, ThreadUsage::SLOTS);
-    let change = change_of(broken, core, ThreadUsage::SLOTS, decoded);
+    let change = change_of(core, ThreadUsage::SLOTS, decoded);
     match change {
         Change::Refused(why) => turned_away(machine, why),
         Change::Ran(counter) => accepted(

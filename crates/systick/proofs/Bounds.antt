@@ -1,6 +1,6 @@
 -- Products and quotients against a limit.
 use Prim.Native.Nat.{ℕ, _+_, _*_, _/_, _≤_, _<_, _-_}
-use native.Mathlib.Nat.{le-div-iff-mul-le, div-lt-iff-lt-mul, div-mul-le-self, div-le-self}
+use native.Mathlib.Nat.{le-div-iff-mul-le, div-lt-iff-lt-mul, div-mul-le-self, div-le-self, le-trans}
 use native.Mathlib.Omega.{arith}
 
 -- what stays within the quotient has a product within the limit, and what passes it passes
@@ -9,6 +9,9 @@ product-within limit t k p h = (le-div-iff-mul-le p) .0 h
 
 pub product-over : (limit t k : ℕ) → 0 < k → limit / k < t → limit < t * k
 product-over limit t k p h = (div-lt-iff-lt-mul p) .0 h
+
+pub quotients-keep-order : (a b k : ℕ) → 0 < k → a ≤ b → a / k ≤ b / k
+quotients-keep-order a b k p h = (le-div-iff-mul-le p) .1 (le-trans (div-mul-le-self a k) h)
 
 -- a quotient multiplied back does not pass what was divided
 pub back-below : (x k limit : ℕ) → x < limit → x / k * k < limit

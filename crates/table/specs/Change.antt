@@ -1,4 +1,4 @@
--- Inside: what a record changes, by the rows of Table.antt. That the change, made, is 01's step is `step-made` (crates/machine/proofs/Tying.antt).
+-- Inside: what a record changes, as the code works it out. `ChangesExact` (crates/demands/specs/Changes.antt) says what it comes to; that the change, made, is 01's step is `step-made` (crates/machine/proofs/Tying.antt).
 use Prim.Native.Nat.{ℕ}
 use mathlib.Core.Bool.{Bool, cond}
 use Rattle.error.specs.InOrder.{inOrder}

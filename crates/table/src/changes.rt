@@ -3,11 +3,13 @@ ghost use mathlib.Core.Path.{_≡_};
 ghost use mathlib.Core.Bool.{cond};
 ghost use Rattle.trace.specs.Decode.{decodeOf};
 ghost use Rattle.table.specs.declared.tasks.Task.the-variants as T;
+ghost use Rattle.table.specs.Table.{malformed};
 ghost use Rattle.table.specs.Change.{ranChange, thenChange, sampledChange, announcedChange, setUpChange, taskChange, recordChange, changeOf};
 use crate::Core;
 use crate::Reason;
 use crate::Values;
 use crate::Verdict;
+use crate::malformed;
 use crate::tasks::Task;
 use crate::tasks::Then;
 use crate::tasks::asks_cycles;
@@ -181,10 +183,10 @@ fn task_change(core: Core, slots: usize, task: Task) -> Change
 }
 
 // What a decoded record changes. A malformed state turns every record away, and stays as it is.
-pub fn change_of(broken: bool, core: Core, slots: usize, decoded: Decoded) -> Change
-    ensures { λ r. ⌜ r ≡ changeOf broken core slots decoded ⌝ }
+pub fn change_of(core: Core, slots: usize, decoded: Decoded) -> Change
+    ensures { λ r. ⌜ r ≡ changeOf (malformed core slots) core slots decoded ⌝ }
 {
-    if broken {
+    if malformed(core, slots) {
         return Change::Refused(Reason::Malformed);
     }
     match decoded {
@@ -203,7 +205,8 @@ fn record_at(core: Core, slots: usize, trace: &[u8], at: usize) -> Change
     }
 }
 
-// What the record at a place of a trace changes.
+// What the record at a place of a trace changes. Whether the state is malformed is the caller's to ask: once for a
+// trace, and not at every record, since no record makes it so.
 pub fn change_at(broken: bool, core: Core, slots: usize, trace: &[u8], at: usize) -> Change
     ensures { λ r. ⌜ r ≡ changeOf broken core slots (decodeOf (now (trace .entry)) at) ⌝ }
 {

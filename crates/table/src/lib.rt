@@ -9,7 +9,7 @@ use error::Refusal;
 use tasks::Asked;
 
 pub mod changes;
-pub mod tasks;
+mod tasks;
 
 // A machine without its thread records: what a record changes is worked out at the same cost for any number of them.
 pub struct Core {
@@ -44,7 +44,7 @@ pub enum Outcome {
     Refused(Reason),
 }
 
-pub enum Verdict {
+enum Verdict {
     Passed,
     Refused(Reason),
 }

@@ -3,7 +3,7 @@ ghost use mathlib.Core.Path.{_≡_};
 ghost use Rattle.error.specs.Numbers.{ok};
 ghost use Rattle.usage.specs.Formulas.{newIdle, averageCycles, elapsedStamps};
 ghost use Rattle.usage.specs.Leaves.{enabled, disabled, accumulated, sysEnableDecide, sysDisableDecide, startDecide, stopDecide};
-ghost use Rattle.usage.specs.Says.{changedSays, applies, recordsStart, accumulates};
+ghost use Rattle.usage.specs.Says.{changedSays, sysTrackSays, startSays, stopSays};
 ghost use Rattle.tickclock.specs.Plain.{isSet, flagOf, usageOf};
 use crate::plain;
 use units::Cycles;
@@ -250,7 +250,7 @@ pub extern "C" fn usage_sys_enable_decide_number(current_tracking: u32) -> i32
 
 #[no_mangle]
 pub extern "C" fn usage_sys_enable_decide_apply(current_tracking: u32) -> u32
-    ensures { λ r. ⌜ r ≡ flagOf (applies (sysEnableDecide (isSet «current_tracking»))) ⌝ }
+    ensures { λ r. ⌜ r ≡ flagOf (sysTrackSays (sysEnableDecide (isSet «current_tracking»)) .value) ⌝ }
 {
     let on = plain::is_set(current_tracking);
     plain::flag_of(usage::sys_enable_decide(on).is_apply())
@@ -265,7 +265,7 @@ pub extern "C" fn usage_sys_disable_decide_number(current_tracking: u32) -> i32
 
 #[no_mangle]
 pub extern "C" fn usage_sys_disable_decide_apply(current_tracking: u32) -> u32
-    ensures { λ r. ⌜ r ≡ flagOf (applies (sysDisableDecide (isSet «current_tracking»))) ⌝ }
+    ensures { λ r. ⌜ r ≡ flagOf (sysTrackSays (sysDisableDecide (isSet «current_tracking»)) .value) ⌝ }
 {
     let on = plain::is_set(current_tracking);
     plain::flag_of(usage::sys_disable_decide(on).is_apply())
@@ -280,7 +280,7 @@ pub extern "C" fn usage_start_decide_number(track_usage: u32) -> i32
 
 #[no_mangle]
 pub extern "C" fn usage_start_decide_record_start(track_usage: u32) -> u32
-    ensures { λ r. ⌜ r ≡ flagOf (recordsStart (startDecide (isSet «track_usage»))) ⌝ }
+    ensures { λ r. ⌜ r ≡ flagOf (startSays (startDecide (isSet «track_usage»)) .value) ⌝ }
 {
     let on = plain::is_set(track_usage);
     plain::flag_of(usage::start_decide(on).is_record_start())
@@ -295,7 +295,7 @@ pub extern "C" fn usage_stop_decide_number(usage0: u32) -> i32
 
 #[no_mangle]
 pub extern "C" fn usage_stop_decide_accumulate(usage0: u32) -> u32
-    ensures { λ r. ⌜ r ≡ flagOf (accumulates (stopDecide usage0)) ⌝ }
+    ensures { λ r. ⌜ r ≡ flagOf (stopSays (stopDecide usage0) .value) ⌝ }
 {
     plain::flag_of(usage::stop_decide(usage0).is_accumulate())
 }

@@ -1,4 +1,4 @@
--- Believed: the sixteen bytes of a record. What decodes is what they encode, and nothing else decodes to it.
+-- Believed: the sixteen bytes of a record. Bytes decode as a record exactly where they are what it is encoded as.
 use Prim.Native.Nat.{ℕ, _+_, _/_, _%_, _^_, _≤_, _<_}
 use mathlib.Core.Path.{_≡_}
 use mathlib.Core.Bool.{false}
@@ -53,7 +53,7 @@ fourThen s at rest = getD s at 0 ∷ getD s (at + 1) 0 ∷ getD s (at + 2) 0 ∷
 abbrev pub sixteenAt : List ℕ → ℕ → List ℕ
 sixteenAt s at = fourThen s at (fourThen s (at + 4) (fourThen s (at + 8) (fourThen s (at + 12) [])))
 
--- bytes are a record if and only if they are sixteen and its own; whatever is turned away meets the first row
+-- bytes are a record if and only if sixteen are left there and they are its own; whatever is turned away meets the first row
 pub record Decodes : Type 0 where
   pub record-is : (s : List ℕ) (at : ℕ) → ((i : ℕ) → getD s i 0 < 256) → (r : Record) → (decodeOf s at ≡ D.Accepted r) ↔ ((at + 16 ≤ length s) × Fit (fieldsOf r) × (sixteenAt s at ≡ encoded (fieldsOf r)))
   pub refused-is : (s : List ℕ) (at : ℕ) (why : Refusal) → decodeOf s at ≡ D.Refused why → why ≡ Invalid

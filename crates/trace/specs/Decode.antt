@@ -1,13 +1,12 @@
--- Inside: sixteen bytes taken apart as the code does it, what each kind uses, and what is turned away. `Decodes` (Bytes.antt) says what comes of it.
+-- Inside: sixteen bytes taken apart as the code does it, what each kind uses, and what is turned away. `Decodes` (Bytes.antt) says what comes of it, and `Readers` (crates/demands/specs/Readers.antt) what the answer says.
 use Prim.Native.Nat.{ℕ, _+_, _*_}
 use mathlib.Core.Bool.{Bool, cond, not, _&&_, _||_}
 use mathlib.Core.List.{List, [], _∷_}
 use lib.ListN.{length, getD}
 use lib.Dec.{ltb, leb, eqb}
-use lib.IntN.{ℤ}
 use Rattle.error.specs.declared.Refusal.{Refusal}
 use Rattle.error.specs.declared.Refusal.the-variants.{Invalid}
-use Rattle.error.specs.Numbers.{ok, numberOf}
+use Rattle.error.specs.Said.{Said, accepted, refused}
 use Rattle.error.specs.InOrder.{Row, inOrder}
 use Rattle.clock.specs.declared.Gaps.{Gaps}
 use Rattle.clock.specs.Timer.{badSetup}
@@ -83,7 +82,7 @@ decodeFields f = inOrder (decodeTests f) D.Refused (D.Accepted (recordOf f))
 unfoldable pub decodeOf : List ℕ → ℕ → Decoded
 decodeOf s at = inOrder ((ltb (length s) (at + 16), Invalid) ∷ []) D.Refused (decodeFields (fieldsAt s at))
 
--- what the answer says: 0, or the refusal's number
-unfoldable pub decodedNumber : Decoded → ℤ
-decodedNumber (D.Accepted r) = ok
-decodedNumber (D.Refused why) = numberOf why
+-- what the answer says: 0 and the record, or the refusal's number and what sixteen zeros stand for
+unfoldable pub decodedSays : Decoded → Said Record
+decodedSays (D.Accepted r) = accepted r
+decodedSays (D.Refused why) = refused why (K.Run 0)

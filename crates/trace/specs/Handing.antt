@@ -15,7 +15,7 @@ recordsLeft s at = cond (ltb (length s) at) 0 ((length s - at) / 16)
 unfoldable pub bytesLeft : List ℕ → ℕ → ℕ
 bytesLeft s at = cond (ltb (length s) at) 0 ((length s - at) % 16)
 
--- past the end the end; at any other place the sixteen bytes from there
+-- the end where no sixteen bytes are left, and else the sixteen from there
 unfoldable pub itemAt : List ℕ → ℕ → Item
 itemAt s at = cond (eqb (recordsLeft s at) 0) I.End (I.Record (decodeOf s at))
 

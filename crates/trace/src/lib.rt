@@ -4,7 +4,7 @@ ghost use mathlib.Core.Path.{_≡_};
 ghost use mathlib.Core.Bool.{cond};
 ghost use lib.ListN.{length};
 ghost use Rattle.error.specs.declared.Refusal.the-variants.{Invalid};
-ghost use Rattle.trace.specs.Decode.{wordOf, wordAt, fieldsAt, decodeFields, decodeOf, decodedNumber};
+ghost use Rattle.trace.specs.Decode.{wordOf, wordAt, fieldsAt, decodeFields, decodeOf, decodedSays};
 use clock::Gaps;
 use error::Refusal;
 
@@ -45,7 +45,7 @@ pub enum Decoded {
 
 impl Decoded {
     pub fn number(self) -> i32
-        ensures { λ r. ⌜ r ≡ decodedNumber self ⌝ }
+        ensures { λ r. ⌜ r ≡ decodedSays self .number ⌝ }
     {
         match self {
             Decoded::Accepted(_) => error::OK,

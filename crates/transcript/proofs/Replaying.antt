@@ -39,7 +39,7 @@ use Rattle.table.specs.declared.changes.Change.the-variants as X
 use Rattle.machine.specs.declared.Machine.{Machine}
 use Rattle.machine.specs.declared.Stepped.{Stepped}
 use Rattle.machine.specs.Step.{withTimer, coreOf, stepOf, reportTells}
-use Rattle.machine.proofs.Making.{operationTells, reportedBy, madeOf}
+use Rattle.machine.specs.Making.{operationTells, reportedBy, madeOf}
 use Rattle.machine.proofs.Tying.{Turn, step-made}
 use Rattle.machine.proofs.Stepping.{every-refusal}
 use Rattle.machine.proofs.InPlace.{entrance, reportable}

@@ -1,4 +1,4 @@
--- Inside: what each answer of a thread record's leaf says, and what a change leaves of a lent record. `Readers` (crates/demands/specs/Readers.antt) says it of all.
+-- Inside: what each answer of a thread record's leaf says, and what a change leaves of a lent record. `Readers` and `LentForms` (crates/demands/specs, Readers.antt and Lent.antt) say it of all.
 use Prim.Native.Nat.{ℕ}
 use mathlib.Core.Bool.{Bool, true, false}
 use Rattle.error.specs.declared.Refusal.{Refusal}
@@ -45,15 +45,15 @@ disableOutcome u = outcomeOf u (disabled u)
 abbrev pub accumulateOutcome : ThreadUsage → ℕ → Outcome
 accumulateOutcome u cycles = outcomeOf u (accumulated u cycles)
 
--- a decision as yes or no
-unfoldable pub applies : SysTrackDecision → Bool
-applies NoOp = false
-applies Apply = true
+-- a decision is never refused, and says yes or no
+unfoldable pub sysTrackSays : SysTrackDecision → Said Bool
+sysTrackSays NoOp = accepted false
+sysTrackSays Apply = accepted true
 
-unfoldable pub recordsStart : StartDecision → Bool
-recordsStart RecordStart = true
-recordsStart RecordOnly = false
+unfoldable pub startSays : StartDecision → Said Bool
+startSays RecordStart = accepted true
+startSays RecordOnly = accepted false
 
-unfoldable pub accumulates : StopDecision → Bool
-accumulates Accumulate = true
-accumulates Skip = false
+unfoldable pub stopSays : StopDecision → Said Bool
+stopSays Accumulate = accepted true
+stopSays Skip = accepted false

@@ -2,7 +2,7 @@
 ghost use mathlib.Core.Path.{_≡_};
 ghost use Rattle.usage.specs.Formulas.{newIdle, averageCycles, elapsedStamps};
 ghost use Rattle.usage.specs.Leaves.{enabled, disabled, accumulated, sysEnableDecide, sysDisableDecide, startDecide, stopDecide};
-ghost use Rattle.usage.specs.Says.{changedSays, changedWhy, outcomeOf, enableOutcome, disableOutcome, accumulateOutcome, applies, recordsStart, accumulates};
+ghost use Rattle.usage.specs.Says.{changedSays, changedWhy, outcomeOf, enableOutcome, disableOutcome, accumulateOutcome, sysTrackSays, startSays, stopSays};
 use error::Refusal;
 use units::Cycles;
 
@@ -17,7 +17,7 @@ pub struct ThreadUsage {
 }
 
 impl ThreadUsage {
-    // How many threads a ledger keeps. Nothing else says so.
+    // How many threads a ledger keeps. The statements say it once more (`threadSlots`).
     pub const SLOTS: usize = 16;
 
     // A full count of windows: one more would not fit.
@@ -75,7 +75,7 @@ impl Changed {
         }
     }
 
-    pub fn outcome(self, before: ThreadUsage) -> Outcome
+    fn outcome(self, before: ThreadUsage) -> Outcome
         ensures { λ r. ⌜ r ≡ outcomeOf before self ⌝ }
     {
         match self {
@@ -164,7 +164,7 @@ pub enum SysTrackDecision {
 
 impl SysTrackDecision {
     pub fn is_apply(self) -> bool
-        ensures { λ r. ⌜ r ≡ applies self ⌝ }
+        ensures { λ r. ⌜ r ≡ sysTrackSays self .value ⌝ }
     {
         match self {
             SysTrackDecision::NoOp => false,
@@ -202,7 +202,7 @@ pub enum StartDecision {
 
 impl StartDecision {
     pub fn is_record_start(self) -> bool
-        ensures { λ r. ⌜ r ≡ recordsStart self ⌝ }
+        ensures { λ r. ⌜ r ≡ startSays self .value ⌝ }
     {
         match self {
             StartDecision::RecordStart => true,
@@ -229,7 +229,7 @@ pub enum StopDecision {
 
 impl StopDecision {
     pub fn is_accumulate(self) -> bool
-        ensures { λ r. ⌜ r ≡ accumulates self ⌝ }
+        ensures { λ r. ⌜ r ≡ stopSays self .value ⌝ }
     {
         match self {
             StopDecision::Accumulate => true,

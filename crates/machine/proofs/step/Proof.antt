@@ -6,18 +6,18 @@ use Rattle.ledger.specs.declared.Ledger.{Ledger}
 use Rattle.ledger.specs.Records.{freshLedger}
 use Rattle.table.specs.declared.Outcome.the-variants as O
 use Rattle.table.specs.Says.{values}
-use Rattle.machine.proofs.Making.{operationTells, reportedBy, madeOf}
+use Rattle.machine.specs.Making.{operationTells, reportedBy, madeOf}
 use Rattle.machine.proofs.Tying.{Turn, step-made}
 use borrow.Author.Needs.{needs}
 use Rattle.machine.proofs.step.Statement.{statement}
 use Rattle.machine.proofs.step.Tie as tie
 
 -- the record's turn, from what the calls so far have answered
-abbrev turn : (c : tie.After-change-of) → Turn (c .before .before .before .before .before .args .machine) (c .before .before .before .before .before .args .decoded) (c .change-of .result)
+abbrev turn : (c : tie.After-change-of) → Turn (c .before .before .before .before .args .machine) (c .before .before .before .before .args .decoded) (c .change-of .result)
 turn c =
-    let core = c .before .before .before .before .core .ensures in
-    let n = simp length-map at (c .before .before .before .before .before .good .0 .1 .1 .1 .1 .0 .1 .1 .1 .0 .1 .0 .1) in
-    record { slots = _; broken = _; table = n; form = sym (rw core at (c .before .malformed .ensures)); made = rw core at (c .change-of .ensures) }
+    let core = c .before .before .before .core .ensures in
+    let n = simp length-map at (c .before .before .before .before .good .0 .1 .1 .1 .1 .0 .1 .1 .1 .0 .1 .0 .1) in
+    record { slots = _; broken = _; table = n; form = refl; made = rw core at (c .change-of .ensures) }
 
 returns : tie.Need-returns
 unfolding madeOf operationTells reportedBy
@@ -61,7 +61,6 @@ pub step-spec : {M : Type 1} → statement M
 step-spec =
     tie.close
     (tie.spec
-    (λ c κs. search needs)
     (λ c κs. search needs)
     (λ c κs. search needs)
     (λ c. search needs)

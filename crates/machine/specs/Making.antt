@@ -1,4 +1,4 @@
--- A record's change made to the machine, as a definition; that this is 01's step is `step-made` (Tying.antt).
+-- Inside: what a change comes to, made to a machine: what is answered, and the machine that is left. That this is 01's step is `step-made` (crates/machine/proofs/Tying.antt).
 use mathlib.Core.Bool.{true}
 use Rattle.clock.specs.declared.Timer.{Timer}
 use Rattle.ledger.specs.declared.Answer.{Answer}

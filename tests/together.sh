@@ -32,6 +32,10 @@ rt check demands > "$work/log" 2>&1 || {
     exit 2
 }
 for name; do
+    [ -f "tests/together/$name" ] || {
+        echo "together: there is no wrong program $name in tests/together" >&2
+        exit 2
+    }
     copy=$work/copy
     rm -rf "$copy"
     mkdir "$copy"

@@ -60,11 +60,11 @@ extern "C" {
 #endif
 
 /*
- * The version, a byte each for major, minor and patch: 2.0.0. A major one
+ * The version, a byte each for major, minor and patch: 1.0.0. A major one
  * changes an answer or a record's layout, a minor one adds, and a patch does
  * neither.
  */
-#define TICKCLOCK_VERSION 0x020000
+#define TICKCLOCK_VERSION 0x010000
 
 /*
  * The numbers that the functions below answer. They are this library's own: a
@@ -132,14 +132,11 @@ uint64_t systick_cycles_to_ticks_ticks(uint64_t cycles,
  *   cycles = ticks * cycles_per_tick
  *
  * ticks            in ticks
- * cycles_per_tick  cycles of one tick
+ * cycles_per_tick  cycles of one tick; 0 is accepted and gives 0 cycles
  *
  * Refused:
- *   TICKCLOCK_EINVAL     cycles_per_tick is 0; before version 2.0.0 that was
- *                        accepted, with 0 cycles
  *   TICKCLOCK_EOVERFLOW  the product is above 2^64 - 1
- * Where refused, cycles is 0. Don't sleep for it: test the number first. Where
- * accepted, systick_cycles_to_ticks_ticks(cycles, cycles_per_tick) is ticks.
+ * Where refused, cycles is 0.
  */
 int32_t systick_ticks_to_cycles_number(uint64_t ticks,
                                        uint32_t cycles_per_tick);

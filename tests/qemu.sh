@@ -85,13 +85,6 @@ sh tools/cc.sh "$room/vectors" $bench/vectors.c $bench/bench.c $bench/host.c
 sh tools/run.sh "$room/vectors" > "$room/want"
 grep -oh '\b\(systick\|usage\|counter\)_[a-z_0-9]*(' include/tickclock.h | tr -d '(' | sort -u > "$room/declared"
 sed 's/(.*//' "$room/want" | sort -u | diff "$room/declared" - || { echo 'qemu: the calls leave out a function of the header'; exit 1; }
-# What x86-64 answers is the C checks' matter, but for this: a tick of 0 is among the calls, and both conversions refuse it.
-awk -v tally="$room/tally" '
-    /^systick_(cycles_to_ticks|ticks_to_cycles)_number\(.*, 0\) = / { calls++; if (!/ = -22$/) { bad++; print } }
-    END { print calls + 0, bad + !calls > tally }' "$room/want"
-read -r calls bad < "$room/tally"
-count "$calls" "$bad"
-echo "of the calls $calls convert by a tick of 0, $bad not refused with -22"
 while read -r target machine core; do
     link "$target" "$room/vectors.elf" $bench/vectors.c
     run "$machine" "$room/vectors.elf" > "$room/got" || echo "ended with status $?" >> "$room/got"

@@ -12,8 +12,7 @@
 // that a sum of upstream's that does not fit stops the run and can't get into the list wrapped.
 //
 // Each input meets upstream's own `requires`. One that does is left out: enable of an untracked record
-// with 4294967295 windows, where upstream's sum does not fit and ours refuses. Upstream's answers for
-// ticks_to_cycles of a tick of 0 are listed apart, under a number of their own: ours refuses there.
+// with 4294967295 windows, where upstream's sum does not fit and ours refuses.
 mod upstream;
 
 use std::collections::HashSet;
@@ -25,8 +24,7 @@ const HEAD: &str = "\
 # They are those of systick.rs and usage.rs of pulseengine/gale, commit 5dd6024508: their bodies, run as
 # plain Rust on inputs that meet their own requires. tools/upstream_answers.rs printed this list and says how.
 # A row is the function's number, its inputs in upstream's order, and its answers. A bool is 0 or 1. An
-# Option is 1 and its fields, or 0 and zeros. A code is 0, or 139 for -139, and the record after it follows.
-# Rows with 18 have answers of upstream's that ours may not give: it is held to -22 there (docs/changes/L4.md).";
+# Option is 1 and its fields, or 0 and zeros. A code is 0, or 139 for -139, and the record after it follows.";
 
 const FULL: u32 = u32::MAX;
 const PAST: u64 = 1 << 32;
@@ -244,17 +242,19 @@ fn ticks_to_cycles(list: &mut List, random: &mut Random) {
             &[bit(answer.is_some()), answer.unwrap_or(0)],
         );
     };
-    for tick in FACTORS.into_iter().filter(|tick| *tick != 0) {
+    for tick in FACTORS {
         for ticks in LONGS {
             ask(ticks, tick);
         }
-        // The last product that fits, and the first that does not.
-        let most = u64::MAX / long(tick);
-        for ticks in around(most) {
-            ask(ticks, tick);
+        if tick != 0 {
+            // The last product that fits, and the first that does not.
+            let most = u64::MAX / long(tick);
+            for ticks in around(most) {
+                ask(ticks, tick);
+            }
+            ask(most.saturating_add(2), tick);
+            ask(most / 2, tick);
         }
-        ask(most.saturating_add(2), tick);
-        ask(most / 2, tick);
     }
     for _ in 0..60 {
         let tick = random.word().max(1);
@@ -264,19 +264,6 @@ fn ticks_to_cycles(list: &mut List, random: &mut Random) {
         }
         ask(random.long_up_to(most), tick);
         ask(random.long(), tick);
-    }
-}
-
-// A tick of no cycles: upstream answers no cycles, and ours refuses (docs/changes/L4.md).
-fn replaced_cycles(list: &mut List) {
-    println!("# 18 ticks_to_cycles of a tick of 0: ticks cycles_per_tick; answers present cycles; held to -22");
-    for ticks in LONGS {
-        let answer = systick::ticks_to_cycles(ticks, 0);
-        list.row(
-            18,
-            &[ticks, 0],
-            &[bit(answer.is_some()), answer.unwrap_or(0)],
-        );
     }
 }
 
@@ -548,7 +535,6 @@ fn main() {
     elapsed_cycles(&mut list, &mut random);
     cycles_to_ticks(&mut list, &mut random);
     ticks_to_cycles(&mut list, &mut random);
-    replaced_cycles(&mut list);
     max_ticks(&mut list, &mut random);
     elapsed_decide(&mut list, &mut random);
     announce_decide(&mut list, &mut random);

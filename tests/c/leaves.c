@@ -232,11 +232,6 @@ static void systick_cycles_to_ticks(void)
 
 static void systick_ticks_to_cycles(void)
 {
-    /* No cycles in a tick: refused, however many the ticks. */
-    SYSTICK_TICKS_TO_CYCLES((0, 0), INVALID, 0);
-    SYSTICK_TICKS_TO_CYCLES((1, 0), INVALID, 0);
-    SYSTICK_TICKS_TO_CYCLES((MAX64, 0), INVALID, 0);
-
     /* The smallest refused for 2 and 3: the products 2^64 and 2^64 + 2. */
     SYSTICK_TICKS_TO_CYCLES((U64(9223372036854775808), 2), TOO_BIG, 0);
     SYSTICK_TICKS_TO_CYCLES((U64(6148914691236517206), 3), TOO_BIG, 0);
@@ -246,12 +241,14 @@ static void systick_ticks_to_cycles(void)
     SYSTICK_TICKS_TO_CYCLES((U64(9223372036854775807), 2), OK,
                             U64(18446744073709551614));
     SYSTICK_TICKS_TO_CYCLES((U64(6148914691236517205), 3), OK, MAX64);
-    SYSTICK_TICKS_TO_CYCLES((0, 1), OK, 0);
-    SYSTICK_TICKS_TO_CYCLES((1, 1), OK, 1);
     SYSTICK_TICKS_TO_CYCLES((MAX64, 1), OK, MAX64);
     SYSTICK_TICKS_TO_CYCLES((1, MAX32), OK, MAX32);
     SYSTICK_TICKS_TO_CYCLES((1397, 12000), OK, 16764000);
     SYSTICK_TICKS_TO_CYCLES((0, MAX32), OK, 0);
+
+    /* No cycles in a tick give no cycles, however many the ticks. */
+    SYSTICK_TICKS_TO_CYCLES((0, 0), OK, 0);
+    SYSTICK_TICKS_TO_CYCLES((MAX64, 0), OK, 0);
 }
 
 static void systick_max_ticks(void)

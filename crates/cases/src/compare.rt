@@ -1,4 +1,4 @@
-// A row of upstream's answers against our leaf: the same or not, or what stands instead of upstream's.
+// A row of upstream's answers against our leaf: the same, or not.
 use crate::line::Row;
 use units::{Cycles, Ticks};
 use usage::{Outcome, ThreadUsage};
@@ -7,7 +7,7 @@ use usage::{Outcome, ThreadUsage};
 pub enum Verdict {
     Agrees,
     Differs,
-    // No function, the wrong number of columns, a column that its type can't hold, or not the answer that was replaced.
+    // No function, the wrong number of columns, or a column that its type can't hold.
     Unreadable,
 }
 
@@ -29,8 +29,7 @@ enum Record {
     Not,
 }
 
-// The first column names the function: from 1 those of upstream's systick.rs, from 7 those of its usage.rs. Rows with 18 are
-// of ticks_to_cycles too, where upstream's answer is replaced.
+// The first column names the function: from 1 those of upstream's systick.rs, from 7 those of its usage.rs.
 pub(crate) fn judged(count: usize, row: Row) -> Verdict {
     let function = row[0];
     if count != columns(function) {
@@ -54,7 +53,6 @@ pub(crate) fn judged(count: usize, row: Row) -> Verdict {
         15 => stop_decide(row),
         16 => average_cycles(row),
         17 => stamp_difference(row),
-        18 => replaced_cycles(row),
         _ => Verdict::Unreadable,
     }
 }
@@ -62,7 +60,7 @@ pub(crate) fn judged(count: usize, row: Row) -> Verdict {
 // The function's number, its inputs and its answers are a column each.
 fn columns(function: u64) -> usize {
     match function {
-        1 | 2 | 3 | 8 | 18 => 5,
+        1 | 2 | 3 | 8 => 5,
         4 | 7 | 16 | 17 => 4,
         5 | 6 | 11 => 9,
         9 | 10 => 8,
@@ -110,19 +108,6 @@ fn ticks_to_cycles(row: Row) -> Verdict {
     let right = ours.number() == number_for(present, cycles_per_tick);
     let cycles = ours.cycles();
     agreed(right & (cycles.0 == row[4]))
-}
-
-// A tick of 0, of which upstream answers Some(0) and nothing else: ours is held to a refusal instead.
-fn replaced_cycles(row: Row) -> Verdict {
-    let no_tick = row[2] == 0;
-    let upstreams = (row[3] == 1) & (row[4] == 0);
-    if !(no_tick & upstreams) {
-        return Verdict::Unreadable;
-    }
-    let ours = systick::ticks_to_cycles(Ticks(row[1]), 0);
-    let refused = ours.number() == error::EINVAL;
-    let cycles = ours.cycles();
-    agreed(refused & (cycles.0 == 0))
 }
 
 fn max_ticks(row: Row) -> Verdict {

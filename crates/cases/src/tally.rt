@@ -8,8 +8,8 @@ pub struct Tally {
     pub rows: u64,
     pub differ: u64,
     pub unreadable: u64,
-    // By a row's first column, which is never 0.
-    pub agreed: [u64; 19],
+    // By the function's number; none has 0.
+    pub agreed: [u64; 18],
 }
 
 impl Tally {
@@ -18,7 +18,7 @@ impl Tally {
             rows: 0,
             differ: 0,
             unreadable: 0,
-            agreed: [0; 19],
+            agreed: [0; 18],
         }
     }
 
@@ -37,7 +37,7 @@ impl Tally {
         }
     }
 
-    // A line for each function, by upstream's name, one for what is replaced, and the last line.
+    // A line for each function, by upstream's name, and the last line.
     pub(crate) fn say(self) {
         let agreed = self.agreed;
         say_systick(agreed);
@@ -52,7 +52,7 @@ impl Tally {
 
     fn with_agreeing(self, function: usize) -> Self {
         let mut next = self;
-        if function < 19 {
+        if function < 18 {
             let agreed = more(self.agreed[function]);
             next.agreed[function] = agreed;
         }
@@ -98,17 +98,16 @@ fn say_function(name: &[u8], agreed: u64) {
     say_count(b" ", agreed, b" agree\n");
 }
 
-fn say_systick(agreed: [u64; 19]) {
+fn say_systick(agreed: [u64; 18]) {
     say_function(b"elapsed_cycles", agreed[1]);
     say_function(b"cycles_to_ticks", agreed[2]);
     say_function(b"ticks_to_cycles", agreed[3]);
-    say_function(b"ticks_to_cycles of tick 0, held to -22:", agreed[18]);
     say_function(b"max_ticks", agreed[4]);
     say_function(b"elapsed_decide", agreed[5]);
     say_function(b"announce_decide", agreed[6]);
 }
 
-fn say_usage(agreed: [u64; 19]) {
+fn say_usage(agreed: [u64; 18]) {
     say_function(b"new_idle", agreed[7]);
     say_function(b"is_tracked", agreed[8]);
     say_function(b"enable", agreed[9]);

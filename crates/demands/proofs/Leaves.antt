@@ -1,6 +1,6 @@
 -- Every leaf answers exactly what 01 says, and the round trip.
 use Prim.Native.Nat.{ℕ, ◌+◌, ◌-◌, ◌*◌, ◌/◌, ◌%◌, ◌^◌, ◌≤◌, ◌<◌}
-use mathlib.Core.Path.{◌≡◌, refl, sym, ap, ◌∙◌}
+use mathlib.Core.Path.{◌≡◌, refl, sym, ap, subst, ◌∙◌}
 use mathlib.Core.Bool.{Bool, true, false, cond}
 use mathlib.Core.Logic.{◌⊎◌, inl, inr, ⊎_elim}
 use native.Mathlib.Omega.{arith}
@@ -13,7 +13,6 @@ use Rattle.error.specs.declared.Refusal.TheVariants.{Invalid}
 use Rattle.units.specs.declared.Cycles.{Cycles}
 use Rattle.units.specs.declared.Ticks.{Ticks}
 use Rattle.systick.specs.Leaves.{difference, elapsed_cycles, cycles_to_ticks, ticks_to_cycles, most_ticks, max_ticks, elapsed_decide, announce_decide}
-use Rattle.systick.specs.Says.{ticks_to_cycles_says}
 use Rattle.systick.specs.Decisions.{dticks_of, announce_value}
 use Rattle.systick.specs.declared.ElapsedCycles.TheVariants as E
 use Rattle.systick.specs.declared.CyclesToTicks.TheVariants as T
@@ -29,8 +28,8 @@ use Rattle.usage.specs.Record.{with_total}
 use Rattle.usage.specs.Leaves.{enabled_record, enabled, accumulated, sys_enable_decide, sys_disable_decide, start_decide}
 use Rattle.usage.proofs.Outcomes as thread
 use Rattle.demands.specs.Exact.{Exact}
-use Rattle.demands.specs.Leaves.{ProductExact, LeavesExact}
-use Rattle.demands.proofs.Exactly.{either, exactly, by_rows, SaysOf, given}
+use Rattle.demands.specs.Leaves.{LeavesExact}
+use Rattle.demands.proofs.Exactly.{either, exactly, by_rows}
 
 difference_cases : {last current load : ℕ} → (last ≤ load) ⊎ (load < last) → (current ≤ load) ⊎ (load < current) → ((last ≤ load) × (current ≤ load)) ⊎ (((load < last) ⊎ (load < current)) ⊎ ⊥)
 difference_cases (inl a) (inl b) = inl (a, b)
@@ -46,13 +45,9 @@ outside (inr h) (inr b) = timer.last_above _ _ _ b
 tick_cases : (tick : ℕ) → (0 < tick) ⊎ ((tick ≡ 0) ⊎ ⊥)
 tick_cases tick = ⊎_elim (λ e. inr (inl e)) (λ p. inl p) (eq-zero-or-pos tick)
 
--- a sum fits 64 bits or does not
+-- a sum or product fits 64 bits or does not
 fit_cases : (n : ℕ) → (n ≤ max64) ⊎ (⊥ ⊎ (max64 < n))
 fit_cases n = ⊎_elim (λ h. inl h) (λ h. inr (inr h)) (either n max64)
-
--- a tick is 0, or it is above and a product with it fits or does not
-product_cases : (tick n : ℕ) → ((0 < tick) × (n ≤ max64)) ⊎ ((tick ≡ 0) ⊎ (max64 < n))
-product_cases tick n = ⊎_elim (λ e. inr (inl e)) (λ p. ⊎_elim (λ h. inl (p, h)) (λ h. inr (inr h)) (either n max64)) (eq-zero-or-pos tick)
 
 -- 01's four tests in order: which of them holds first, for any tick, new count, announced cycles and ticks
 announce_cases :
@@ -82,6 +77,17 @@ enable_cases u true t full e = inl (inl t)
 enable_cases u false t true e = inr (inr (t, eqb-true _ _ e))
 enable_cases u false t false e = inl (inr (t, eqb-false _ _ e))
 
+pub round_trip : (ticks : Ticks) (tick : ℕ) (cycles : Cycles) → 0 < tick → ticks_to_cycles ticks tick ≡ C.Accepted cycles → cycles_to_ticks cycles tick ≡ T.Accepted ticks
+round_trip ticks tick cycles p e = by_case (either (ticks.0 * tick) max64)
+  where
+    by_case : (ticks.0 * tick ≤ max64) ⊎ (max64 < ticks.0 * tick) → cycles_to_ticks cycles tick ≡ T.Accepted ticks
+    by_case (inl h) =
+        let product : record { 0 = ticks.0 * tick } ≡ cycles = cc (timer.cycles_given ticks tick h) in
+        subst (λ (c : Cycles). cycles_to_ticks c tick ≡ T.Accepted ticks) product
+        (timer.ticks_given (record { 0 = ticks.0 * tick }) tick p ∙
+        ap (λ (n : ℕ). T.Accepted (record { 0 = n })) (mul-div_cancel ticks.0 p))
+    by_case (inr h) = clash (cc (timer.product_above ticks tick h))
+
 -- each leaf's definition answers exactly what 01 says
 pub difference_exact : (last current load : ℕ) → Exact E.Accepted E.Refused (elapsed_cycles last current load) ((last ≤ load) × (current ≤ load)) (difference last current load) ((load < last) ⊎ (load < current)) ⊥
 difference_exact last current load =
@@ -97,25 +103,12 @@ quotient_exact cycles tick =
     (timer.ticks_no_tick cycles tick)
     (λ never. absurd never)
 
-pub product_exact : (ticks : Ticks) (tick : ℕ) → ProductExact ticks tick (ticks_to_cycles ticks tick)
+pub product_exact : (ticks : Ticks) (tick : ℕ) → Exact C.Accepted C.Refused (ticks_to_cycles ticks tick) (ticks.0 * tick ≤ max64) (record { 0 = ticks.0 * tick }) ⊥ (max64 < ticks.0 * tick)
 product_exact ticks tick =
-    exactly C.Accepted C.Refused (λ why e. clash (cc)) (λ e. clash (cc)) (product_cases tick (ticks.0 * tick))
-    (λ fits. timer.cycles_given ticks tick fits.0 fits.1)
-    (timer.cycles_no_tick ticks tick)
+    exactly C.Accepted C.Refused (λ why e. clash (cc)) (λ e. clash (cc)) (fit_cases (ticks.0 * tick))
+    (timer.cycles_given ticks tick)
+    (λ never. absurd never)
     (timer.product_above ticks tick)
-
-pub says_cycles : SaysOf C.Accepted C.Refused ticks_to_cycles_says (record { 0 = 0 })
-unfolding ticks_to_cycles_says
-says_cycles = record { of_accepted = λ v. refl; of_refused = λ why. refl }
-
--- what is accepted is the product, and of a tick above 0; so it comes back
-pub accepted_cycles : (ticks : Ticks) (tick : ℕ) (cycles : Cycles) → ticks_to_cycles ticks tick ≡ C.Accepted cycles → ((0 < tick) × (ticks.0 * tick ≤ max64)) × (cycles ≡ record { 0 = ticks.0 * tick })
-accepted_cycles ticks tick = given says_cycles (product_exact ticks tick)
-
-pub comes_back : (ticks : Ticks) (tick : ℕ) (cycles : Cycles) → ticks_to_cycles ticks tick ≡ C.Accepted cycles → cycles_to_ticks cycles tick ≡ T.Accepted ticks
-comes_back ticks tick cycles e =
-    let is = accepted_cycles ticks tick cycles e in
-    rw is.1 (timer.ticks_given (record { 0 = ticks.0 * tick }) tick is.0.0 ∙ ap (λ (n : ℕ). T.Accepted (record { 0 = n })) (mul-div_cancel ticks.0 is.0.0))
 
 pub most_exact : (tick : ℕ) → Exact M.Accepted M.Refused (max_ticks tick) (0 < tick) (record { 0 = most_ticks tick }) (tick ≡ 0) ⊥
 most_exact tick =
@@ -176,6 +169,5 @@ leaves_exact = record {
   start_decide_lem = λ tracked r allowed. allowed.2 ∙ by_flag start_decide tracked;
   stop_decide_lem = λ usage0 r allowed. allowed.2;
   stamps_true = λ from to h r allowed. allowed.2 ∙ low_apart from to h;
-  round_trip = λ ticks tick cycles p there allowed e back allowed'. allowed'.2 ∙ comes_back ticks tick cycles (sym allowed.2 ∙ e);
-  comes_back = λ ticks tick cycles there allowed e back allowed'. allowed'.2 ∙ comes_back ticks tick cycles (sym allowed.2 ∙ e);
+  round_trip = λ ticks tick cycles p there allowed e back allowed'. allowed'.2 ∙ round_trip ticks tick cycles p (sym allowed.2 ∙ e);
 }

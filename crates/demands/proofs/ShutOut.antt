@@ -1,4 +1,4 @@
--- Each wrong machine falls at a short trace, or at one record and a machine handed in; each wrong leaf at one input.
+-- Each wrong machine falls at a short trace, or at one record and a machine handed in.
 use Prim.Native.Nat.{ℕ}
 use mathlib.Core.Path.{◌≡◌, refl, sym, ap}
 use mathlib.Core.Bool.{true, false, false≢true}
@@ -6,9 +6,6 @@ use mathlib.Core.List.{[], ◌∷◌}
 use native.Mathlib.Omega.{arith}
 use Rattle.error.proofs.Tests.{clash}
 use Rattle.error.specs.Numbers.{max64}
-use Rattle.error.specs.declared.Refusal.TheVariants.{Invalid}
-use Rattle.units.specs.declared.Cycles.{Cycles}
-use Rattle.systick.specs.declared.TicksToCycles.TheVariants as C
 use Rattle.usage.specs.Leaves.{enabled, accumulated}
 use Rattle.usage.specs.Formulas.{new_idle, average_cycles}
 use Rattle.counter.specs.Cycle.{cycle, run_n, wraps}
@@ -115,16 +112,5 @@ shut_out = record {
       absurd (omega arith);
   never_samples_falls = λ law.
       let e : ◌≡◌ {A = ℕ} 4294967295 0 = ap (λ (n : Machine). n.timer.clock.overflow) (law.records (fresh_machine 2) (K.Setup (record { period = 10; tick = 4 })) (values 0 0) refl).1 in
-      absurd (omega arith);
-  hands_back_falls = λ law.
-      let accepted : C.Accepted (record { 0 = 1 }) ≡ C.Accepted (record { 0 = 2 }) = (law (record { 0 = 1 }) 2).accepted.1 (omega arith, omega arith) in
-      let e : ◌≡◌ {A = Cycles} (record { 0 = 1 }) (record { 0 = 2 }) = cc in
-      let n : ◌≡◌ {A = ℕ} 1 2 = ap (λ (c : Cycles). c.0) e in
-      absurd (omega arith);
-  no_tick_no_cycles_falls = λ law.
-      let e : C.Accepted (record { 0 = 0 }) ≡ C.Refused Invalid = (law (record { 0 = 1 }) 0).invalid.1 refl in
-      clash (cc);
-  tick_one_refused_falls = λ law.
-      let e : ◌≡◌ {A = ℕ} 1 0 = (law (record { 0 = 1 }) 1).invalid.0 refl in
       absurd (omega arith);
 }

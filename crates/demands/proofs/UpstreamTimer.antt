@@ -20,7 +20,7 @@ use Rattle.systick.proofs.Outcomes as timer
 use Rattle.systick.proofs.Bounds.{product_within, product_over, quotients_keep_order}
 use Rattle.demands.specs.UpstreamTimer.{ElapsedCyclesEnsures, TicksToCyclesEnsures, ElapsedDecideEnsures, AnnounceDecideEnsures, TimerClauses, TimerLemmas}
 use Rattle.demands.proofs.Exactly.{SaysOf, said, said_bad, said_over, fits, given}
-use Rattle.demands.proofs.Leaves.{difference_exact, quotient_exact, product_exact, says_cycles, accepted_cycles, comes_back, most_exact, announce_exact}
+use Rattle.demands.proofs.Leaves.{difference_exact, quotient_exact, product_exact, most_exact, announce_exact, round_trip}
 
 -- what the answers' definitions say
 says_difference : SaysOf E.Accepted E.Refused elapsed_cycles_says 0
@@ -30,6 +30,10 @@ says_difference = record { of_accepted = λ v. refl; of_refused = λ why. refl }
 says_ticks : SaysOf T.Accepted T.Refused cycles_to_ticks_says (record { 0 = 0 })
 unfolding cycles_to_ticks_says
 says_ticks = record { of_accepted = λ v. refl; of_refused = λ why. refl }
+
+says_cycles : SaysOf C.Accepted C.Refused ticks_to_cycles_says (record { 0 = 0 })
+unfolding ticks_to_cycles_says
+says_cycles = record { of_accepted = λ v. refl; of_refused = λ why. refl }
 
 says_most : SaysOf M.Accepted M.Refused max_ticks_says (record { 0 = 0 })
 unfolding max_ticks_says
@@ -58,6 +62,11 @@ accepted_ticks : (cycles : Cycles) (tick : ℕ) (ticks : Ticks) → cycles_to_ti
 accepted_ticks cycles tick ticks e =
     let is = given says_ticks (quotient_exact cycles tick) ticks e in
     (is.0, ap (λ (t : Ticks). t.0) is.1)
+
+accepted_cycles : (ticks : Ticks) (tick : ℕ) (cycles : Cycles) → ticks_to_cycles ticks tick ≡ C.Accepted cycles → (ticks.0 * tick ≤ max64) × (cycles.0 ≡ ticks.0 * tick)
+accepted_cycles ticks tick cycles e =
+    let is = given says_cycles (product_exact ticks tick) cycles e in
+    (is.0, ap (λ (c : Cycles). c.0) is.1)
 
 accepted_most : (tick : ℕ) (ticks : Ticks) → max_ticks tick ≡ M.Accepted ticks → ticks.0 ≡ most_ticks tick
 accepted_most tick ticks e = ap (λ (t : Ticks). t.0) (given says_most (most_exact tick) ticks e).1
@@ -104,21 +113,22 @@ announce_clauses count announced overflow tick p a b =
     }
 
 product_clauses : (ticks : Ticks) (tick : ℕ) → TicksToCyclesEnsures ticks tick (ticks_to_cycles_says (ticks_to_cycles ticks tick))
+unfolding ticks_to_cycles_says
 product_clauses ticks tick =
     let exact = product_exact ticks tick in
     let reads = says_cycles in
     record {
-      no_tick_refused = λ e. let is = said_bad reads exact e in (ap (λ s. s.number) is, ap (λ s. s.value.0) is);
+      no_tick = λ e. let is = ap ticks_to_cycles_says (timer.cycles_of_nothing ticks tick e) in (ap (λ said. said.number) is, ap (λ said. said.value.0) is);
       none = λ p h. ap (λ s. s.number) (said_over reads exact (product_over max64 ticks.0 tick p h));
-      some = λ p h. let is = said reads exact (p, product_within max64 ticks.0 tick p h) in (ap (λ s. s.number) is, ap (λ s. s.value.0) is);
+      some = λ p h. let is = said reads exact (product_within max64 ticks.0 tick p h) in (ap (λ s. s.number) is, ap (λ s. s.value.0) is);
     }
 
 -- there and back, over the value that the answer says
 back_again : (ticks : Ticks) (tick : ℕ) → 0 < tick → ticks.0 ≤ max64 / tick → cycles_to_ticks (ticks_to_cycles_says (ticks_to_cycles ticks tick)).value tick ≡ T.Accepted ticks
 unfolding ticks_to_cycles_says
 back_again ticks tick p h =
-    let given = timer.cycles_given ticks tick p (product_within max64 ticks.0 tick p h) in
-    comes_back ticks tick (ticks_to_cycles_says (ticks_to_cycles ticks tick)).value
+    let given = timer.cycles_given ticks tick (product_within max64 ticks.0 tick p h) in
+    round_trip ticks tick (ticks_to_cycles_says (ticks_to_cycles ticks tick)).value p
     (given ∙ ap C.Accepted (sym (ap (λ a. (ticks_to_cycles_says a).value) given)))
 
 truncation : (cycles : Cycles) (tick : ℕ) (ticks : Ticks) → cycles.0 ≤ max64 → cycles_to_ticks cycles tick ≡ T.Accepted ticks → (ticks_to_cycles ticks tick ≡ C.Accepted (record { 0 = ticks.0 * tick })) × (ticks.0 * tick ≤ cycles.0) × (cycles.0 < ticks.0 * tick + tick)
@@ -126,7 +136,7 @@ truncation cycles tick ticks h e =
     let facts = accepted_ticks cycles tick ticks e in
     let below : ticks.0 * tick ≤ cycles.0 = rw facts.1 (div-mul-le_self cycles.0 tick) in
     let above : cycles.0 < ticks.0 * tick + tick = rw facts.1 (lt-div-mul-add facts.0) in
-    (timer.cycles_given ticks tick facts.0 (le_trans below h), below, above)
+    (timer.cycles_given ticks tick (le_trans below h), below, above)
 
 pub timer_clauses : TimerClauses
 timer_clauses = record {
@@ -158,5 +168,5 @@ timer_lemmas = record {
   lemma_zero_elapsed = λ count load h. timer.counted_down count count load h (omega arith) ∙ ap E.Accepted (omega arith);
   lemma_conversion_truncation = truncation;
   ticks_within = λ cycles tick ticks e. rw (accepted_ticks cycles tick ticks e).1 (div-le_self cycles.0 tick);
-  cycles_fit = λ ticks tick cycles e. let facts = accepted_cycles ticks tick cycles e in rw facts.1 facts.0.1;
+  cycles_fit = λ ticks tick cycles e. let facts = accepted_cycles ticks tick cycles e in rw facts.1 facts.0;
 }

@@ -6,7 +6,6 @@ use Rattle.units.specs.declared.Cycles.{Cycles}
 use Rattle.units.specs.declared.Ticks.{Ticks}
 use Rattle.systick.specs.declared.ElapsedCycles.TheVariants as E
 use Rattle.systick.specs.declared.CyclesToTicks.TheVariants as T
-use Rattle.systick.specs.declared.TicksToCycles.{TicksToCycles}
 use Rattle.systick.specs.declared.TicksToCycles.TheVariants as C
 use Rattle.systick.specs.declared.MaxTicks.TheVariants as M
 use Rattle.systick.specs.declared.ElapsedDecide.TheVariants as D
@@ -38,16 +37,12 @@ use Rattle.usage.proofs.stop_decide.Reads as usage-stop-decide
 use Rattle.demands.specs.Contract.{Every, Gives, Gives1, Gives2}
 use Rattle.demands.specs.Exact.{Exact, ByRows}
 
--- Ticks to cycles: product; tick 0: -22 (02's L4); -139 exactly when the product passes 2^64 - 1.
-abbrev pub ProductExact : Ticks → ℕ → TicksToCycles → Type 0
-ProductExact ticks tick r = Exact C.Accepted C.Refused r ((0 < tick) × (ticks.0 * tick ≤ max64)) (record { 0 = ticks.0 * tick }) (tick ≡ 0) (max64 < ticks.0 * tick)
-
 pub record LeavesExact : Type 0 where
   pub elapsed_cycles_lem :
       (last current load : ℕ) →
       Every systick-elapsed-cycles.Post (last, (current, (load, tt))) (λ r. Exact E.Accepted E.Refused r ((last ≤ load) × (current ≤ load)) (cond (leb current last) (last - current) (last + load - current)) ((load < last) ⊎ (load < current)) ⊥)
   pub cycles_to_ticks_lem : (cycles : Cycles) (tick : ℕ) → Every systick-cycles-to-ticks.Post (cycles, (tick, tt)) (λ r. Exact T.Accepted T.Refused r (0 < tick) (record { 0 = cycles.0 / tick }) (tick ≡ 0) ⊥)
-  pub ticks_to_cycles_lem : (ticks : Ticks) (tick : ℕ) → Every systick-ticks-to-cycles.Post (ticks, (tick, tt)) (ProductExact ticks tick)
+  pub ticks_to_cycles_lem : (ticks : Ticks) (tick : ℕ) → Every systick-ticks-to-cycles.Post (ticks, (tick, tt)) (λ r. Exact C.Accepted C.Refused r (ticks.0 * tick ≤ max64) (record { 0 = ticks.0 * tick }) ⊥ (max64 < ticks.0 * tick))
   pub max_ticks_lem : (tick : ℕ) → Every systick-max-ticks.Post (tick, tt) (λ r. Exact M.Accepted M.Refused r (0 < tick) (record { 0 = cond (eqb (16777215 / tick) 0) 0 (16777215 / tick - 1) }) (tick ≡ 0) ⊥)
   -- In order: val2 > load, -22; load - val2 + overflow + load above 2^32 - 1, -139, wrap or not.
   pub elapsed_decide_lem :
@@ -84,8 +79,4 @@ pub record LeavesExact : Type 0 where
   pub round_trip :
       (ticks : Ticks) (tick : ℕ) (cycles : Cycles) →
       0 < tick →
-      Every systick-ticks-to-cycles.Post (ticks, (tick, tt)) (λ there. there ≡ C.Accepted cycles → Every systick-cycles-to-ticks.Post (cycles, (tick, tt)) (λ back. back ≡ T.Accepted ticks))
-  -- and for any tick, since one of 0 is refused (02's L4)
-  pub comes_back :
-      (ticks : Ticks) (tick : ℕ) (cycles : Cycles) →
       Every systick-ticks-to-cycles.Post (ticks, (tick, tt)) (λ there. there ≡ C.Accepted cycles → Every systick-cycles-to-ticks.Post (cycles, (tick, tt)) (λ back. back ≡ T.Accepted ticks))

@@ -1,11 +1,5 @@
--- Evidence: wrong machines, each shut out by a demand, and wrong leaves, each shut out by its exact statement. Those of 01's "What the contracts must shut out" and "Slips we have seen", and more.
-use Rattle.std.specs.Prelude.{ℕ, ◌+◌, ◌*◌, Bool, true, false, cond, not, ◌&&◌, [], ◌∷◌, set, ltb, leb, eqb}
-use Rattle.error.specs.declared.Refusal.TheVariants.{Invalid, Overflow}
-use Rattle.error.specs.Numbers.{max64}
-use Rattle.error.specs.InOrder.{in_order}
-use Rattle.units.specs.declared.Ticks.{Ticks}
-use Rattle.systick.specs.declared.TicksToCycles.{TicksToCycles}
-use Rattle.systick.specs.declared.TicksToCycles.TheVariants as C
+-- Evidence: wrong machines, each shut out by a demand. Those of 01's "What the contracts must shut out" and "Slips we have seen", and more.
+use Rattle.std.specs.Prelude.{ℕ, ◌+◌, Bool, true, false, cond, not, ◌&&◌, set, leb, eqb}
 use Rattle.counter.specs.declared.Counter.{Counter}
 use Rattle.counter.specs.Cycle.{cleared}
 use Rattle.clock.specs.declared.Gaps.{Gaps}
@@ -25,7 +19,6 @@ use Rattle.table.specs.Says.{values}
 use Rattle.machine.specs.declared.Machine.{Machine}
 use Rattle.machine.specs.declared.Stepped.{Stepped}
 use Rattle.machine.specs.Step.{step_of}
-use Rattle.demands.specs.Leaves.{ProductExact}
 use Rattle.demands.specs.Demand1.{Demand1}
 use Rattle.demands.specs.Demand2.{Demand2}
 use Rattle.demands.specs.Demand3.{Demand3}
@@ -216,20 +209,6 @@ tells_again = leaving (λ m r n. cond (eqb (kind r) 1) (with_announced n 0) n)
 abbrev never_samples : Machine → Decoded → Stepped
 never_samples = leaving (λ m r n. cond (eqb (kind r) 9) (further n 4294967295) n)
 
--- ticks to cycles by another test of the tick, or with another value
-abbrev converting : (ℕ → Bool) → (ℕ → ℕ → ℕ) → Ticks → ℕ → TicksToCycles
-converting invalid value ticks tick = in_order ((invalid tick, Invalid) ∷ (ltb max64 (ticks.0 * tick), Overflow) ∷ []) C.Refused (C.Accepted (record { 0 = value ticks.0 tick }))
-
--- one that hands the ticks back, upstream's own with its 0 for a tick of 0, and one that turns a tick of 1 away too
-abbrev hands_back : Ticks → ℕ → TicksToCycles
-hands_back = converting (λ tick. eqb tick 0) (λ ticks tick. ticks)
-
-abbrev no_tick_no_cycles : Ticks → ℕ → TicksToCycles
-no_tick_no_cycles = converting (λ tick. false) (λ ticks tick. ticks * tick)
-
-abbrev tick_one_refused : Ticks → ℕ → TicksToCycles
-tick_one_refused = converting (λ tick. leb tick 1) (λ ticks tick. ticks * tick)
-
 pub record ShutOut : Type 2 where
   pub refuser_falls : Demand1 refuser → ⊥
   pub frozen_falls : Demand3 frozen → ⊥
@@ -253,6 +232,3 @@ pub record ShutOut : Type 2 where
   pub charges_untracked_falls : Demand3 charges_untracked → ⊥
   pub tells_again_falls : Demand3 tells_again → ⊥
   pub never_samples_falls : Demand2 never_samples → ⊥
-  pub hands_back_falls : ((ticks : Ticks) (tick : ℕ) → ProductExact ticks tick (hands_back ticks tick)) → ⊥
-  pub no_tick_no_cycles_falls : ((ticks : Ticks) (tick : ℕ) → ProductExact ticks tick (no_tick_no_cycles ticks tick)) → ⊥
-  pub tick_one_refused_falls : ((ticks : Ticks) (tick : ℕ) → ProductExact ticks tick (tick_one_refused ticks tick)) → ⊥

@@ -1,4 +1,4 @@
--- Evidence: upstream's clauses and lemmas of systick.rs, each over our definition, under upstream's own requires; of one, what 02's L4 put in its place. They follow from the laws that `LeavesExact` rests on and from what the answers' definitions say.
+-- Evidence: upstream's clauses and lemmas of systick.rs, each over our definition, under upstream's own requires. They follow from the laws that `LeavesExact` rests on and from what the answers' definitions say.
 use Rattle.std.specs.Prelude.{ℕ, ◌+◌, ◌-◌, ◌*◌, ◌/◌, ◌≤◌, ◌<◌, ◌≡◌, Bool, true, false, ◌||◌, ltb}
 use Rattle.error.specs.Numbers.{ok, minus, max32, max64}
 use Rattle.error.specs.Said.{Said}
@@ -25,9 +25,9 @@ pub record CyclesToTicksEnsures (cycles : Cycles) (tick : ℕ) (said : Said Tick
   pub none : tick ≡ 0 → said.number ≡ minus 22
   pub some : 0 < tick → (said.number ≡ ok) × (said.value.0 ≡ cycles.0 / tick)
 
--- what ticks_to_cycles ensures, with a refusal for None; for a tick of 0 upstream's Some(0) is replaced by 02's L4
+-- what ticks_to_cycles ensures, with a refusal for None
 pub record TicksToCyclesEnsures (ticks : Ticks) (tick : ℕ) (said : Said Cycles) : Type 0 where
-  pub no_tick_refused : tick ≡ 0 → (said.number ≡ minus 22) × (said.value.0 ≡ 0)
+  pub no_tick : tick ≡ 0 → (said.number ≡ ok) × (said.value.0 ≡ 0)
   pub none : 0 < tick → max64 / tick < ticks.0 → said.number ≡ minus 139
   pub some : 0 < tick → ticks.0 ≤ max64 / tick → (said.number ≡ ok) × (said.value.0 ≡ ticks.0 * tick)
 

@@ -1,8 +1,6 @@
 -- Products and quotients against a limit.
 use Prim.Native.Nat.{ℕ, ◌+◌, ◌*◌, ◌/◌, ◌≤◌, ◌<◌, ◌-◌}
-use mathlib.Core.Path.{ap, subst, ◌∙◌}
-use mathlib.Core.Logic.{⊎_elim}
-use native.Mathlib.Nat.{le-div_iff_mul-le, div-lt_iff_lt-mul, div-mul-le_self, div-le_self, le_trans, mul-zero, eq-zero-or-pos}
+use native.Mathlib.Nat.{le-div_iff_mul-le, div-lt_iff_lt-mul, div-mul-le_self, div-le_self, le_trans}
 use native.Mathlib.Omega.{arith}
 
 -- what stays within the quotient has a product within the limit, and what passes it passes
@@ -11,10 +9,6 @@ product_within limit t k p h = (le-div_iff_mul-le p).0 h
 
 pub product_over : (limit t k : ℕ) → 0 < k → limit / k < t → limit < t * k
 product_over limit t k p h = (div-lt_iff_lt-mul p).0 h
-
--- a product that passes a limit is of something
-pub over_some : (limit t k : ℕ) → limit < t * k → 0 < k
-over_some limit t k h = ⊎_elim (λ e. omega (arith, subst (λ n. limit < n) (ap (λ n. t * n) e ∙ mul-zero t) h)) (λ p. p) (eq-zero-or-pos k)
 
 pub quotients_keep_order : (a b k : ℕ) → 0 < k → a ≤ b → a / k ≤ b / k
 quotients_keep_order a b k p h = (le-div_iff_mul-le p).1 (le_trans (div-mul-le_self a k) h)

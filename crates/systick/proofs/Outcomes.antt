@@ -2,6 +2,7 @@
 use mathlib.Core.Path.{◌≡◌, ap}
 use mathlib.Core.Bool.{Bool, cond, ◌||◌}
 use Prim.Native.Nat.{ℕ, ◌+◌, ◌-◌, ◌*◌, ◌/◌, ◌≤◌, ◌<◌}
+use native.Mathlib.Nat.{mul-zero}
 use native.Mathlib.Omega.{arith}
 use lib.Dec.{ltb}
 use borrow.Author.Tests.{eq-eqb, ne_eqb, lt-ltb, le-ltb, le-leb, lt-leb}
@@ -17,7 +18,6 @@ use Rattle.systick.specs.declared.TicksToCycles.TheVariants as C
 use Rattle.systick.specs.declared.MaxTicks.TheVariants as M
 use Rattle.systick.specs.declared.ElapsedDecide.TheVariants as D
 use Rattle.systick.specs.declared.AnnounceDecide.TheVariants as A
-use Rattle.systick.proofs.Bounds.{over_some}
 
 positive : {n : ℕ} → 0 < n → n ≡ 0 → ⊥
 positive p e = omega arith
@@ -53,17 +53,17 @@ module _ (cycles : Cycles) (tick : ℕ) where
   ticks_given h = simp (ne_eqb tick 0 (positive h))
 
 module _ (ticks : Ticks) (tick : ℕ) where
-  pub cycles_no_tick : tick ≡ 0 → ticks_to_cycles ticks tick ≡ C.Refused Invalid
+  pub cycles_of_nothing : tick ≡ 0 → ticks_to_cycles ticks tick ≡ C.Accepted (record { 0 = 0 })
   unfolding ticks_to_cycles
-  cycles_no_tick h = simp (eq-eqb _ _ h)
+  cycles_of_nothing h = simp (h, mul-zero)
 
-  pub cycles_given : 0 < tick → ticks.0 * tick ≤ max64 → ticks_to_cycles ticks tick ≡ C.Accepted (record { 0 = ticks.0 * tick })
+  pub cycles_given : ticks.0 * tick ≤ max64 → ticks_to_cycles ticks tick ≡ C.Accepted (record { 0 = ticks.0 * tick })
   unfolding ticks_to_cycles
-  cycles_given p h = simp (ne_eqb tick 0 (positive p), le-ltb _ _ h)
+  cycles_given h = simp (le-ltb _ _ h)
 
   pub product_above : max64 < ticks.0 * tick → ticks_to_cycles ticks tick ≡ C.Refused Overflow
   unfolding ticks_to_cycles
-  product_above h = simp (ne_eqb tick 0 (positive (over_some _ _ _ h)), lt-ltb _ _ h)
+  product_above h = simp (lt-ltb _ _ h)
 
 module _ (tick : ℕ) where
   pub most_no_tick : tick ≡ 0 → max_ticks tick ≡ M.Refused Invalid

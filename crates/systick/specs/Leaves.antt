@@ -1,5 +1,5 @@
 -- Inside: the timer's leaves as their contracts cite them, tests in 01's order and then the answer. `LeavesExact` (crates/demands/specs/Leaves.antt) writes each out.
-use Rattle.std.specs.Prelude.{ℕ, ◌+◌, ◌-◌, ◌*◌, ◌/◌, Bool, cond, List, [], ◌∷◌, ◌++◌, ltb, leb, eqb}
+use Rattle.std.specs.Prelude.{ℕ, ◌+◌, ◌-◌, ◌*◌, ◌/◌, Bool, cond, List, [], ◌∷◌, ltb, leb, eqb}
 use Rattle.error.specs.declared.Refusal.{Refusal}
 use Rattle.error.specs.declared.Refusal.TheVariants.{Invalid, Overflow}
 use Rattle.error.specs.Numbers.{max32, max64}
@@ -41,9 +41,9 @@ unfoldable pub cycles_to_ticks : Cycles → ℕ → CyclesToTicks
 cycles_to_ticks cycles tick =
     in_order (tick_tests tick) T.Refused (T.Accepted (record { 0 = cycles.0 / tick }))
 
--- Ticks to cycles: product; tick 0: -22 here too (02's L4); -139 exactly when the product passes 2^64 - 1.
+-- Ticks to cycles: product, 0 for tick 0; -139 exactly when the product passes 2^64 - 1.
 abbrev pub product_tests : Ticks → ℕ → List (Row Refusal)
-product_tests ticks tick = tick_tests tick ++ (ltb max64 (ticks.0 * tick), Overflow) ∷ []
+product_tests ticks tick = (ltb max64 (ticks.0 * tick), Overflow) ∷ []
 
 unfoldable pub ticks_to_cycles : Ticks → ℕ → TicksToCycles
 ticks_to_cycles ticks tick =

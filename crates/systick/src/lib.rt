@@ -102,7 +102,7 @@ pub fn ticks_to_cycles(ticks: Ticks, cycles_per_tick: u32) -> TicksToCycles
     ensures { result ≡ ticks_to_cycles ticks cycles_per_tick }
 {
     if cycles_per_tick == 0 {
-        return TicksToCycles::Refused(Refusal::Invalid);
+        return TicksToCycles::Accepted(Cycles(0));
     }
     let cpt = cycles_per_tick as u64;
     // Tested by the quotient, since the product itself may not fit.

@@ -9,7 +9,7 @@ use Rattle.systick.proofs.ticks_to_cycles.Statement.{statement}
 use Rattle.systick.proofs.ticks_to_cycles.Tie as tie
 
 returns : tie.Need-returns
-returns c = sym (outcome.cycles_no_tick _ _ (omega arith))
+returns c = sym (outcome.cycles_of_nothing _ _ (omega arith))
 
 returns-2 : tie.Need-returns-2
 returns-2 c = sym (outcome.product_above _ _ (product_over max64 _ _ (omega arith) c.if2.true))
@@ -18,7 +18,7 @@ mul-cycles : tie.Need-overflow-mul-cycles
 mul-cycles c = record { fits = omega (arith, product_within max64 _ _ (omega arith) c.before.if2.false) }
 
 returns-3 : tie.Need-returns-3
-returns-3 c = sym (outcome.cycles_given _ _ (omega arith) (product_within max64 _ _ (omega arith) c.before.if2.false))
+returns-3 c = sym (outcome.cycles_given _ _ (product_within max64 _ _ (omega arith) c.before.if2.false))
 
 pub ticks_to_cycles_spec : {M : Type 1} → statement M
 ticks_to_cycles_spec = tie.close (tie.spec returns (λ c. search rules) returns-2 mul-cycles returns-3)

@@ -1,4 +1,5 @@
 // One operation over the books and the one thread record that it concerns: each closed stretch is entered once.
+#![tactic(auto)]
 ghost use Rattle.std.specs.Prelude.{◌≡◌, cond, eqb};
 ghost use Rattle.books.specs.Entries.{charged, close_of, stop_of, switch_of, altered, reopen_of, alter_of, enter_of, open_of};
 ghost use Rattle.books.specs.Running.{is_running, stamp_of, nothing_booked, no_thread, unrecorded, past, busy, concerned};

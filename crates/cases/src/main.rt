@@ -1,4 +1,5 @@
 // Holds the leaves to a list of upstream's answers: from the file that the first argument names, else from standard input.
+#![tactic(auto)]
 mod compare;
 mod line;
 mod reading;

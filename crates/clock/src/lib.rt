@@ -1,4 +1,5 @@
 // 01's clock over the counter: setup, a sample and an announcement, each tested before anything is touched.
+#![tactic(auto)]
 ghost use Rattle.std.specs.Prelude.{◌≡◌, cond, ◌+◌, ◌≤◌, leb};
 ghost use Rattle.counter.specs.Cycle.{cleared};
 ghost use Rattle.clock.specs.Timer.{bad_setup, accounted_for, well_formed};

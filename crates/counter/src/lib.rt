@@ -1,4 +1,5 @@
 // 01's counter: the definition steps cycle by cycle, the code jumps.
+#![tactic(auto)]
 ghost use Rattle.std.specs.Prelude.{◌≡◌, ◌+◌, ◌≤◌};
 ghost use Rattle.error.specs.Numbers.{max64};
 ghost use Rattle.counter.specs.Cycle.{run_n, cleared};

@@ -1,4 +1,6 @@
 // Document 01's numbers with upstream's values, and the one list of reasons to refuse.
+#![tactic(auto)]
+
 ghost use Rattle.std.specs.Prelude.{◌≡◌};
 ghost use Rattle.error.specs.Numbers.{number_of};
 

@@ -1,4 +1,5 @@
 // 01's ledger: the books and a table of thread records, an operation on them, and what they tell of a thread.
+#![tactic(auto)]
 ghost use Rattle.std.specs.Prelude.{◌≡◌};
 ghost use Rattle.ledger.specs.Operate.{refused_with, operate_of, report_of};
 ghost use Rattle.ledger.specs.Records.{fresh_ledger, report_value, answer_says};

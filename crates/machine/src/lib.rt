@@ -1,4 +1,5 @@
 // 01's machine: one record's step over counter, clock and ledger.
+#![tactic(auto)]
 ghost use Rattle.std.specs.Prelude.{◌≡◌};
 ghost use Rattle.machine.specs.Step.{core_of, with_timer, report_tells, step_of, fresh_machine};
 ghost use Rattle.table.specs.declared.Outcome.TheVariants as O;

@@ -1,4 +1,5 @@
 // Replays a trace of any size from standard input, part by part, and writes its lines to standard output.
+#![tactic(auto)]
 mod output;
 
 // A part is as long as the longest trace of document 01, whose limit is a matter of `replay` alone.

@@ -1,4 +1,5 @@
 // The timer's leaves: upstream's systick.rs on any numbers, each refusing for itself.
+#![tactic(auto)]
 ghost use Rattle.std.specs.Prelude.{◌≡◌};
 ghost use Rattle.systick.specs.Leaves.{elapsed_cycles, cycles_to_ticks, ticks_to_cycles, max_ticks, elapsed_decide, announce_decide};
 ghost use Rattle.systick.specs.Says.{elapsed_cycles_says, cycles_to_ticks_says, ticks_to_cycles_says, max_ticks_says, elapsed_decide_says, elapsed_decide_why, announce_decide_says, announce_decide_why};

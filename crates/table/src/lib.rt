@@ -1,4 +1,5 @@
 // 01's table of refusals: the tests that are made before the counter is touched, in its order, and what a step answers.
+#![tactic(auto)]
 ghost use Rattle.std.specs.Prelude.{◌≡◌};
 ghost use Rattle.table.specs.Table.{refusal_of, malformed};
 ghost use Rattle.table.specs.Change.{tested_of};

@@ -1,4 +1,5 @@
 // The leaves for C: plain numbers in, a number or one field out, or a thread record lent. Each refuses for itself.
+#![tactic(auto)]
 pub mod lent;
 mod plain;
 pub mod thread;

@@ -1,4 +1,5 @@
 // Sixteen bytes of a trace: their fields, and the one record that they stand for.
+#![tactic(auto)]
 ghost use Rattle.std.specs.Prelude.{◌+◌, ◌≤◌, ◌≡◌, cond, length};
 ghost use Rattle.error.specs.declared.Refusal.TheVariants.{Invalid};
 ghost use Rattle.trace.specs.Decode.{word_of, word_at, fields_at, decode_fields, decode_of, decoded_says};

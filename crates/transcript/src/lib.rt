@@ -1,4 +1,5 @@
 // A trace's text: a line for each record, from any machine and number, and the lines that end it.
+#![tactic(auto)]
 ghost use Rattle.std.specs.Prelude.{◌≡◌, cond, ◌+◌, ◌*◌, ◌≤◌, length, ltb};
 ghost use Rattle.table.specs.declared.Outcome.TheVariants as O;
 ghost use Rattle.machine.specs.Step.{fresh_machine};

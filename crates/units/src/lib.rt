@@ -1,4 +1,5 @@
 // Cycles and ticks: two kinds of number that can't be mixed. The conversions in systick are the way across.
+#![tactic(auto)]
 
 // Cycles of the timer's clock: a time, a count or a total. Laid out for C as its one number.
 #[repr(C)]

@@ -1,4 +1,5 @@
 // A thread's usage record and its leaves: upstream's usage.rs by value, on any numbers.
+#![tactic(auto)]
 ghost use Rattle.std.specs.Prelude.{◌≡◌};
 ghost use Rattle.usage.specs.Formulas.{new_idle, average_cycles, elapsed_stamps};
 ghost use Rattle.usage.specs.Leaves.{enabled, disabled, accumulated, sys_enable_decide, sys_disable_decide, start_decide, stop_decide};

@@ -1,5 +1,6 @@
 // The timer's leaves: upstream's systick.rs on any numbers, each refusing for itself.
 #![tactic(auto)]
+
 ghost use Rattle.std.specs.Prelude.{◌≡◌};
 ghost use Rattle.systick.specs.Leaves.{elapsed_cycles, cycles_to_ticks, ticks_to_cycles, max_ticks, elapsed_decide, announce_decide};
 ghost use Rattle.systick.specs.Says.{elapsed_cycles_says, cycles_to_ticks_says, ticks_to_cycles_says, max_ticks_says, elapsed_decide_says, elapsed_decide_why, announce_decide_says, announce_decide_why};
@@ -17,6 +18,7 @@ pub enum ElapsedCycles {
 }
 
 // Cycles between two values of a timer that counts down, with at most one wrap between them.
+#[tactic(auto, unfolding(crate::specs::Leaves::elapsed_cycles))]
 pub fn elapsed_cycles(last_count: u32, current_count: u32, load: u32) -> ElapsedCycles
     ensures { result ≡ elapsed_cycles last_count current_count load }
 {
@@ -35,6 +37,7 @@ pub fn elapsed_cycles(last_count: u32, current_count: u32, load: u32) -> Elapsed
     }
 }
 
+#[tactic(auto, unfolding(crate::specs::Says::elapsed_cycles_says))]
 impl ElapsedCycles {
     pub fn number(self) -> i32
         ensures { result ≡ (elapsed_cycles_says self).number }
@@ -62,6 +65,7 @@ pub enum CyclesToTicks {
 }
 
 // The whole ticks within a number of cycles.
+#[tactic(auto, unfolding(crate::specs::Leaves::cycles_to_ticks))]
 pub fn cycles_to_ticks(cycles: Cycles, cycles_per_tick: u32) -> CyclesToTicks
     ensures { result ≡ cycles_to_ticks cycles cycles_per_tick }
 {
@@ -72,6 +76,7 @@ pub fn cycles_to_ticks(cycles: Cycles, cycles_per_tick: u32) -> CyclesToTicks
     CyclesToTicks::Accepted(Ticks(ticks))
 }
 
+#[tactic(auto, unfolding(crate::specs::Says::cycles_to_ticks_says))]
 impl CyclesToTicks {
     pub fn number(self) -> i32
         ensures { result ≡ (cycles_to_ticks_says self).number }
@@ -99,6 +104,7 @@ pub enum TicksToCycles {
 }
 
 // The cycles of a number of ticks.
+#[tactic(auto, unfolding(crate::specs::Leaves::ticks_to_cycles))]
 pub fn ticks_to_cycles(ticks: Ticks, cycles_per_tick: u32) -> TicksToCycles
     ensures { result ≡ ticks_to_cycles ticks cycles_per_tick }
 {
@@ -115,6 +121,7 @@ pub fn ticks_to_cycles(ticks: Ticks, cycles_per_tick: u32) -> TicksToCycles
     TicksToCycles::Accepted(Cycles(cycles))
 }
 
+#[tactic(auto, unfolding(crate::specs::Says::ticks_to_cycles_says))]
 impl TicksToCycles {
     pub fn number(self) -> i32
         ensures { result ≡ (ticks_to_cycles_says self).number }
@@ -142,6 +149,7 @@ pub enum MaxTicks {
 }
 
 // The most ticks that may be programmed at once: one fewer than the register holds whole.
+#[tactic(auto, unfolding(crate::specs::Leaves::max_ticks))]
 pub fn max_ticks(cycles_per_tick: u32) -> MaxTicks
     ensures { result ≡ max_ticks cycles_per_tick }
 {
@@ -157,6 +165,7 @@ pub fn max_ticks(cycles_per_tick: u32) -> MaxTicks
     MaxTicks::Accepted(Ticks(ticks))
 }
 
+#[tactic(auto, unfolding(crate::specs::Says::max_ticks_says))]
 impl MaxTicks {
     pub fn number(self) -> i32
         ensures { result ≡ (max_ticks_says self).number }
@@ -191,6 +200,7 @@ pub enum ElapsedDecide {
 }
 
 // Whether the timer wrapped, and the cycles since the count was last brought up to date.
+#[tactic(auto, unfolding(crate::specs::Leaves::elapsed_decide))]
 pub fn elapsed_decide(
     val1: u32,
     val2: u32,
@@ -223,6 +233,7 @@ pub fn elapsed_decide(
     })
 }
 
+#[tactic(auto, unfolding(crate::specs::Says::elapsed_decide_says, crate::specs::Says::elapsed_decide_why))]
 impl ElapsedDecide {
     pub fn number(self) -> i32
         ensures { result ≡ (elapsed_decide_says self).number }
@@ -285,6 +296,7 @@ pub enum AnnounceDecide {
 }
 
 // The whole ticks that have come since the last announcement, and the counts after it.
+#[tactic(auto, unfolding(crate::specs::Leaves::announce_decide))]
 pub fn announce_decide(
     cycle_count: Cycles,
     announced_cycles: Cycles,
@@ -320,6 +332,7 @@ pub fn announce_decide(
     })
 }
 
+#[tactic(auto, unfolding(crate::specs::Says::announce_decide_says, crate::specs::Says::announce_decide_why))]
 impl AnnounceDecide {
     pub fn number(self) -> i32
         ensures { result ≡ (announce_decide_says self).number }

@@ -11,7 +11,7 @@ use units::Cycles;
 use usage::{Changed, ThreadUsage};
 
 // What the ledger keeps besides the thread records.
-#[derive(Drop)]
+#[derive(Clone, Copy)]
 pub struct Books {
     // The stamp at which the open stretch began; 0 where none runs.
     pub stamp: u32,
@@ -21,7 +21,7 @@ pub struct Books {
     pub total: Cycles,
 }
 
-#[derive(Drop)]
+#[derive(Clone, Copy)]
 pub enum Operation {
     Start(u32),
     Switch(u32),
@@ -31,14 +31,14 @@ pub enum Operation {
 }
 
 // The books and the one record concerned, after an operation, and the cycles that it closed.
-#[derive(Drop)]
+#[derive(Clone, Copy)]
 pub struct Entry {
     pub cycles: u32,
     pub books: Books,
     pub usage: ThreadUsage,
 }
 
-#[derive(Drop)]
+#[derive(Clone, Copy)]
 pub enum Entered {
     Accepted(Entry),
     Refused(Refusal),

@@ -3,7 +3,7 @@ use crate::line::Row;
 use units::{Cycles, Ticks};
 use usage::{Outcome, ThreadUsage};
 
-#[derive(Drop)]
+#[derive(Clone, Copy)]
 pub enum Verdict {
     Agrees,
     Differs,
@@ -11,19 +11,19 @@ pub enum Verdict {
     Unreadable,
 }
 
-#[derive(Drop)]
+#[derive(Clone, Copy)]
 enum Word {
     Fits(u32),
     TooLarge,
 }
 
-#[derive(Drop)]
+#[derive(Clone, Copy)]
 enum Flag {
     Is(bool),
     Neither,
 }
 
-#[derive(Drop)]
+#[derive(Clone, Copy)]
 enum Record {
     Is(ThreadUsage),
     Not,

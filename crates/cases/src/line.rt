@@ -5,7 +5,7 @@ pub const COLUMNS: usize = 12;
 
 pub type Row = [u64; COLUMNS];
 
-#[derive(Drop)]
+#[derive(Clone, Copy)]
 pub struct Line {
     pub comment: bool,
     pub unreadable: bool,

@@ -8,14 +8,14 @@ mod tally;
 use reading::Reading;
 
 // How the input stands once a piece of it has been asked for.
-#[derive(Drop)]
+#[derive(Clone, Copy)]
 enum Input {
     Open,
     Ended,
     Failed,
 }
 
-#[derive(Drop)]
+#[derive(Clone, Copy)]
 struct Piece {
     input: Input,
     reading: Reading,

@@ -4,7 +4,7 @@ use crate::line::Line;
 use crate::tally::{Tally, more};
 
 // The lines that have ended, as a tally, and what has come of the next, whose number from 1 is at.
-#[derive(Drop)]
+#[derive(Clone, Copy)]
 pub struct Reading {
     pub at: u64,
     pub line: Line,

@@ -2,7 +2,7 @@
 use crate::compare::Verdict;
 use libc::STDOUT_FILENO;
 
-#[derive(Drop)]
+#[derive(Clone, Copy)]
 pub struct Tally {
     // The lines that could be read as rows.
     pub rows: u64,

@@ -13,7 +13,7 @@ use error::Refusal;
 use systick::{AnnounceDecide, AnnounceDecideResult, ElapsedDecide, ElapsedDecideResult};
 use units::{Cycles, Ticks};
 
-#[derive(Drop)]
+#[derive(Clone, Copy)]
 pub struct Clock {
     // Cycles of a tick.
     pub tick: u32,
@@ -27,14 +27,14 @@ pub struct Clock {
     pub last: Cycles,
 }
 
-#[derive(Drop)]
+#[derive(Clone, Copy)]
 pub struct Timer {
     pub counter: Counter,
     pub clock: Clock,
 }
 
 // Cycles from A to B, from B to C, and from C to D.
-#[derive(Drop)]
+#[derive(Clone, Copy)]
 pub struct Gaps {
     pub p: u32,
     pub q: u32,
@@ -50,13 +50,13 @@ impl Gaps {
     }
 }
 
-#[derive(Drop)]
+#[derive(Clone, Copy)]
 pub enum SetUp {
     Accepted(Timer),
     Refused(Refusal),
 }
 
-#[derive(Drop)]
+#[derive(Clone, Copy)]
 pub struct SampleTaken {
     pub elapsed: u32,
     pub wrap: bool,
@@ -64,19 +64,19 @@ pub struct SampleTaken {
     pub timer: Timer,
 }
 
-#[derive(Drop)]
+#[derive(Clone, Copy)]
 pub enum Sampled {
     Accepted(SampleTaken),
     Refused(Refusal),
 }
 
-#[derive(Drop)]
+#[derive(Clone, Copy)]
 pub struct Announcement {
     pub dticks: Ticks,
     pub timer: Timer,
 }
 
-#[derive(Drop)]
+#[derive(Clone, Copy)]
 pub enum Announced {
     Accepted(Announcement),
     Refused(Refusal),

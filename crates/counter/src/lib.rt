@@ -11,7 +11,7 @@ ghost use Rattle.counter.specs.Valid.{Valid};
 use error::Refusal;
 use units::Cycles;
 
-#[derive(Drop)]
+#[derive(Clone, Copy)]
 pub struct Counter {
     // Cycles from wrap to wrap: 01's L.
     pub period: u32,
@@ -24,7 +24,7 @@ pub struct Counter {
 }
 
 // A counter that was started or run, or the reason why not.
-#[derive(Drop)]
+#[derive(Clone, Copy)]
 pub enum Ran {
     Accepted(Counter),
     Refused(Refusal),
@@ -154,14 +154,14 @@ impl Ran {
 }
 
 // What a sample reads: the flag at B, the value at C, and the counter r cycles after C, before D.
-#[derive(Drop)]
+#[derive(Clone, Copy)]
 pub struct SampleReadings {
     pub flag: bool,
     pub value: u32,
     pub after: Counter,
 }
 
-#[derive(Drop)]
+#[derive(Clone, Copy)]
 pub enum SampleRead {
     Accepted(SampleReadings),
     Refused(Refusal),
@@ -216,7 +216,7 @@ impl SampleRead {
     }
 }
 
-#[derive(Drop)]
+#[derive(Clone, Copy)]
 pub enum ValueRead {
     Accepted(u32),
     Refused(Refusal),

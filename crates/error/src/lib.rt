@@ -21,7 +21,7 @@ pub const EALREADY: i32 = -114;
 pub const EOVERFLOW: i32 = -139;
 
 // Why an entry turns its caller away.
-#[derive(Drop)]
+#[derive(Clone, Copy)]
 pub enum Refusal {
     // Nothing is set up yet.
     Missing,

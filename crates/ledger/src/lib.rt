@@ -10,26 +10,26 @@ use error::Refusal;
 use units::Cycles;
 use usage::ThreadUsage;
 
-#[derive(Drop)]
+#[derive(Clone, Copy)]
 pub struct Ledger {
     pub books: Books,
     pub threads: [ThreadUsage; ThreadUsage::SLOTS],
 }
 
 // The cycles closed, or the reason why not.
-#[derive(Drop)]
+#[derive(Clone, Copy)]
 pub enum Answer {
     Accepted(u32),
     Refused(Refusal),
 }
 
-#[derive(Drop)]
+#[derive(Clone, Copy)]
 pub struct Ledgered {
     pub answer: Answer,
     pub ledger: Ledger,
 }
 
-#[derive(Drop)]
+#[derive(Clone, Copy)]
 pub struct ThreadReport {
     pub total: Cycles,
     pub average: Cycles,
@@ -48,7 +48,7 @@ impl ThreadReport {
     }
 }
 
-#[derive(Drop)]
+#[derive(Clone, Copy)]
 pub enum Reported {
     Accepted(ThreadReport),
     Refused(Refusal),

@@ -8,7 +8,7 @@ use crate::{LINE_ROOM, Written};
 use error::Refusal;
 
 // Made by `of` and `next` alone.
-#[derive(Drop)]
+#[derive(Clone, Copy)]
 pub struct Label {
     // The number without its last two digits, and those.
     head: u64,

@@ -22,7 +22,7 @@ pub const LINE_ROOM: usize = 75;
 // And of it what follows the number.
 const REST_ROOM: usize = 54;
 
-#[derive(Drop)]
+#[derive(Clone, Copy)]
 pub enum Written {
     // The place after the text.
     Accepted(usize),

@@ -13,7 +13,7 @@ use trace::Decoded;
 use units::Cycles;
 use usage::ThreadUsage;
 
-#[derive(Drop)]
+#[derive(Clone, Copy)]
 pub struct Machine {
     // Whether it is set up; until then nothing else is looked at.
     pub ready: bool,
@@ -21,7 +21,7 @@ pub struct Machine {
     pub ledger: Ledger,
 }
 
-#[derive(Drop)]
+#[derive(Clone, Copy)]
 pub struct Stepped {
     pub outcome: Outcome,
     pub machine: Machine,

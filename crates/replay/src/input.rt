@@ -4,7 +4,7 @@ ghost use Rattle.replay.specs.Within.{ReadsWithin};
 // One byte more than a trace may have: what comes after it can't change the text.
 pub const MOST: usize = transcript::MOST_BYTES + 1;
 
-#[derive(Drop)]
+#[derive(Clone, Copy)]
 pub enum Input {
     // How many bytes came before the input ended or the array was full.
     Read(usize),

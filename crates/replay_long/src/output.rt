@@ -2,7 +2,7 @@
 use lines::Written;
 use machine::Machine;
 
-#[derive(Drop)]
+#[derive(Clone, Copy)]
 pub struct After {
     // Where not, what went wrong was told on standard error.
     pub written: bool,

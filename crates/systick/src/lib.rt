@@ -11,7 +11,7 @@ use units::{Cycles, Ticks};
 // The largest value that the timer's 24-bit register holds.
 pub const SYSTICK_MAX_LOAD: u32 = 16777215;
 
-#[derive(Drop)]
+#[derive(Clone, Copy)]
 pub enum ElapsedCycles {
     Accepted(u32),
     Refused(Refusal),
@@ -58,7 +58,7 @@ impl ElapsedCycles {
     }
 }
 
-#[derive(Drop)]
+#[derive(Clone, Copy)]
 pub enum CyclesToTicks {
     Accepted(Ticks),
     Refused(Refusal),
@@ -97,7 +97,7 @@ impl CyclesToTicks {
     }
 }
 
-#[derive(Drop)]
+#[derive(Clone, Copy)]
 pub enum TicksToCycles {
     Accepted(Cycles),
     Refused(Refusal),
@@ -142,7 +142,7 @@ impl TicksToCycles {
     }
 }
 
-#[derive(Drop)]
+#[derive(Clone, Copy)]
 pub enum MaxTicks {
     Accepted(Ticks),
     Refused(Refusal),
@@ -186,14 +186,14 @@ impl MaxTicks {
     }
 }
 
-#[derive(Drop)]
+#[derive(Clone, Copy)]
 pub struct ElapsedDecideResult {
     pub wrap_detected: bool,
     pub new_overflow_cyc: u32,
     pub elapsed: u32,
 }
 
-#[derive(Drop)]
+#[derive(Clone, Copy)]
 pub enum ElapsedDecide {
     Accepted(ElapsedDecideResult),
     Refused(Refusal),
@@ -282,14 +282,14 @@ impl ElapsedDecide {
     }
 }
 
-#[derive(Drop)]
+#[derive(Clone, Copy)]
 pub struct AnnounceDecideResult {
     pub dticks: Ticks,
     pub new_cycle_count: Cycles,
     pub new_announced_cycles: Cycles,
 }
 
-#[derive(Drop)]
+#[derive(Clone, Copy)]
 pub enum AnnounceDecide {
     Accepted(AnnounceDecideResult),
     Refused(Refusal),

@@ -16,7 +16,7 @@ use trace::{Decoded, Setup};
 use units::Cycles;
 
 // What a record changes: only the parts of the state that are new.
-#[derive(Drop)]
+#[derive(Clone, Copy)]
 pub enum Change {
     // Nothing, and why.
     Refused(Reason),

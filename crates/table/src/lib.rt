@@ -14,7 +14,7 @@ pub mod changes;
 mod tasks;
 
 // A machine without its thread records: what a record changes is worked out at the same cost for any number of them.
-#[derive(Drop)]
+#[derive(Clone, Copy)]
 pub struct Core {
     pub ready: bool,
     pub timer: Timer,
@@ -22,7 +22,7 @@ pub struct Core {
 }
 
 // Why a record is turned away: one case for each row of 01's table, in its order, and the malformed state before them.
-#[derive(Drop)]
+#[derive(Clone, Copy)]
 pub enum Reason {
     Malformed,
     BadRecord,
@@ -38,19 +38,19 @@ pub enum Reason {
 }
 
 // What a record's line says after its number and code.
-#[derive(Drop)]
+#[derive(Clone, Copy)]
 pub struct Values {
     pub x: u64,
     pub y: u64,
 }
 
-#[derive(Drop)]
+#[derive(Clone, Copy)]
 pub enum Outcome {
     Accepted(Values),
     Refused(Reason),
 }
 
-#[derive(Drop)]
+#[derive(Clone, Copy)]
 enum Verdict {
     Passed,
     Refused(Reason),

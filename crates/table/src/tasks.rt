@@ -10,14 +10,14 @@ use clock::Gaps;
 use trace::{Record, Setup};
 
 // What follows a sample: it is told, or an operation of the ledger is entered at its reading.
-#[derive(Drop)]
+#[derive(Clone, Copy)]
 pub enum Then {
     Tell,
     Operate(Operation),
 }
 
 // What a record asks for. Each kind that changes the ledger is a sample and then one operation.
-#[derive(Drop)]
+#[derive(Clone, Copy)]
 pub enum Task {
     Run(u32),
     Sample(Gaps, Then),
@@ -27,7 +27,7 @@ pub enum Task {
 }
 
 // What of a task the table's rows look at.
-#[derive(Drop)]
+#[derive(Clone, Copy)]
 pub struct Asked {
     // A setup, and one with a bad period or tick.
     pub setup: bool,

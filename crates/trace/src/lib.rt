@@ -10,7 +10,7 @@ use error::Refusal;
 pub mod reader;
 
 // A record's bytes as numbers; `spare` is the two bytes that are always 0.
-#[derive(Drop)]
+#[derive(Clone, Copy)]
 struct Fields {
     kind: u8,
     thread: u8,
@@ -20,13 +20,13 @@ struct Fields {
     r: u32,
 }
 
-#[derive(Drop)]
+#[derive(Clone, Copy)]
 pub struct Setup {
     pub period: u32,
     pub tick: u32,
 }
 
-#[derive(Drop)]
+#[derive(Clone, Copy)]
 pub enum Record {
     Run(u32),
     Sample(Gaps),
@@ -40,7 +40,7 @@ pub enum Record {
     Setup(Setup),
 }
 
-#[derive(Drop)]
+#[derive(Clone, Copy)]
 pub enum Decoded {
     Accepted(Record),
     Refused(Refusal),

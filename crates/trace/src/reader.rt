@@ -4,14 +4,14 @@ ghost use Rattle.trace.specs.Handing.{records_left, bytes_left, item_at, place_a
 
 use crate::Decoded;
 
-#[derive(Drop)]
+#[derive(Clone, Copy)]
 pub struct TraceReader<'a> {
     pub trace: &'a [u8],
     pub at: usize,
 }
 
 // What stands at a place: sixteen bytes, a record or refused; or the end, where fewer are left.
-#[derive(Drop)]
+#[derive(Clone, Copy)]
 pub enum Item {
     Record(Decoded),
     End,

@@ -4,7 +4,7 @@ use crate::record::{Fields, put_byte, put_copies, put_record, takes, with_field}
 use crate::text::{next_line, word_end};
 use crate::words::{R, Word, begins_case, word_at};
 
-#[derive(Drop)]
+#[derive(Clone, Copy)]
 pub enum Built {
     // How many bytes the trace has so far.
     Size(usize),
@@ -12,7 +12,7 @@ pub enum Built {
     Unreadable(usize),
 }
 
-#[derive(Drop)]
+#[derive(Clone, Copy)]
 struct Read {
     fields: Fields,
     // The place after the last number that was taken.

@@ -3,7 +3,7 @@ use crate::numbers::{Repeat, past_spaces, repeat_at};
 use crate::text::{byte_at, next_line, word_end};
 use crate::words::{Word, begins_case, word_at};
 
-#[derive(Drop)]
+#[derive(Clone, Copy)]
 pub enum Held {
     // The place in the text up to which it is as it must be.
     To(usize),
@@ -11,7 +11,7 @@ pub enum Held {
     Differs(usize),
 }
 
-#[derive(Drop)]
+#[derive(Clone, Copy)]
 enum Wanted {
     From(usize),
     Nothing,

@@ -1,6 +1,6 @@
 // The list, read from a descriptor into one array.
 
-#[derive(Drop)]
+#[derive(Clone, Copy)]
 pub enum Input {
     // How many bytes came before the input ended or the array was full.
     Read(usize),

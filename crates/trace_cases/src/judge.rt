@@ -6,7 +6,7 @@ use crate::say;
 // One byte more than a trace may have.
 const MOST: usize = transcript::MOST_BYTES + 1;
 
-#[derive(Drop)]
+#[derive(Clone, Copy)]
 pub enum Verdict {
     Agrees,
     Differs,

@@ -1,7 +1,7 @@
 // The numbers on a line, one after another.
 use crate::text::byte_at;
 
-#[derive(Drop)]
+#[derive(Clone, Copy)]
 pub enum Found {
     // The number, and the place after it.
     Number(u64, usize),
@@ -10,7 +10,7 @@ pub enum Found {
     Unreadable,
 }
 
-#[derive(Drop)]
+#[derive(Clone, Copy)]
 pub enum Repeat {
     // How many records, and how many times.
     Again(u16, u16),

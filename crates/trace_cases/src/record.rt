@@ -2,7 +2,7 @@
 use crate::text::byte_at;
 use crate::words::{KIND, P, Q, R, THREAD};
 
-#[derive(Drop)]
+#[derive(Clone, Copy)]
 pub struct Fields {
     pub kind: u64,
     pub thread: u64,

@@ -6,7 +6,7 @@ use crate::say;
 use crate::text::{more, next_line};
 use crate::words::begins_case;
 
-#[derive(Drop)]
+#[derive(Clone, Copy)]
 pub struct Tally {
     pub traces: u64,
     pub differ: u64,

@@ -1,7 +1,7 @@
 // The first word of a line: what the line adds to its case's trace.
 use crate::text::{byte_at, has_word};
 
-#[derive(Drop)]
+#[derive(Clone, Copy)]
 pub enum Word {
     // Document 01's kind, and the field that the line's first number is for.
     Record(u8, u8),

@@ -34,13 +34,13 @@ const INPUT_ROOM: usize = 10;
 // Room for the text of any trace.
 pub const MOST_ROOM: usize = MOST_BYTES / 16 * LINE_ROOM + LAST_ROOM;
 
-#[derive(Drop)]
+#[derive(Clone, Copy)]
 pub struct Part {
     pub written: Written,
     pub machine: Machine,
 }
 
-#[derive(Drop)]
+#[derive(Clone, Copy)]
 struct Replayed {
     pub end: usize,
     pub machine: Machine,

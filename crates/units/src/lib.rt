@@ -3,9 +3,9 @@
 
 // Cycles of the timer's clock: a time, a count or a total. Laid out for C as its one number.
 #[repr(C)]
-#[derive(Drop)]
+#[derive(Clone, Copy)]
 pub struct Cycles(pub u64);
 
 // Ticks of the kernel: a number of them, never a time in cycles.
-#[derive(Drop)]
+#[derive(Clone, Copy)]
 pub struct Ticks(pub u64);

@@ -1,5 +1,6 @@
 // A thread's usage record and its leaves: upstream's usage.rs by value, on any numbers.
 #![tactic(auto)]
+
 ghost use Rattle.std.specs.Prelude.{◌≡◌};
 ghost use Rattle.usage.specs.Formulas.{new_idle, average_cycles, elapsed_stamps};
 ghost use Rattle.usage.specs.Leaves.{enabled, disabled, accumulated, sys_enable_decide, sys_disable_decide, start_decide, stop_decide};
@@ -12,7 +13,7 @@ mod lent;
 
 // Laid out for C, which may lend one.
 #[repr(C)]
-#[derive(Drop)]
+#[derive(Clone, Copy)]
 pub struct ThreadUsage {
     pub track_usage: bool,
     pub total_cycles: Cycles,
@@ -38,19 +39,20 @@ impl ThreadUsage {
 }
 
 // A record changed, or the reason why not.
-#[derive(Drop)]
+#[derive(Clone, Copy)]
 pub enum Changed {
     Accepted(ThreadUsage),
     Refused(Refusal),
 }
 
 // A code and the record that stands after it, for whoever keeps the record in place.
-#[derive(Drop)]
+#[derive(Clone, Copy)]
 pub struct Outcome {
     pub code: i32,
     pub usage: ThreadUsage,
 }
 
+#[tactic(auto, unfolding(crate::specs::Says::changed_says, crate::specs::Says::changed_why, crate::specs::Says::outcome_of))]
 impl Changed {
     pub fn number(self) -> i32
         ensures { result ≡ (changed_says self).number }
@@ -162,12 +164,13 @@ pub fn accumulate_outcome(usage: ThreadUsage, cycles: u32) -> Outcome
     accumulated(usage, cycles).outcome(usage)
 }
 
-#[derive(Drop)]
+#[derive(Clone, Copy)]
 pub enum SysTrackDecision {
     NoOp,
     Apply,
 }
 
+#[tactic(auto, unfolding(crate::specs::Says::sys_track_says))]
 impl SysTrackDecision {
     pub fn is_apply(self) -> bool
         ensures { result ≡ (sys_track_says self).value }
@@ -201,12 +204,13 @@ pub fn sys_disable_decide(current_tracking: bool) -> SysTrackDecision
     }
 }
 
-#[derive(Drop)]
+#[derive(Clone, Copy)]
 pub enum StartDecision {
     RecordStart,
     RecordOnly,
 }
 
+#[tactic(auto, unfolding(crate::specs::Says::start_says))]
 impl StartDecision {
     pub fn is_record_start(self) -> bool
         ensures { result ≡ (start_says self).value }
@@ -229,12 +233,13 @@ pub fn start_decide(track_usage: bool) -> StartDecision
     }
 }
 
-#[derive(Drop)]
+#[derive(Clone, Copy)]
 pub enum StopDecision {
     Accumulate,
     Skip,
 }
 
+#[tactic(auto, unfolding(crate::specs::Says::stop_says))]
 impl StopDecision {
     pub fn is_accumulate(self) -> bool
         ensures { result ≡ (stop_says self).value }

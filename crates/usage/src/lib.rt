@@ -52,7 +52,7 @@ pub struct Outcome {
     pub usage: ThreadUsage,
 }
 
-#[tactic(auto, unfolding(crate::specs::Says::changed_says, crate::specs::Says::changed_why, crate::specs::Says::outcome_of))]
+#[tactic(auto, unfolding(crate::specs::Says::changed_says, crate::specs::Says::changed_why, crate::specs::Says::outcome_of, crate::specs::Says::kept))]
 impl Changed {
     pub fn number(self) -> i32
         ensures { result ≡ (changed_says self).number }
@@ -105,6 +105,7 @@ pub fn is_tracked(usage: ThreadUsage) -> bool
 }
 
 // Tracking set, and a window opened, unless it was set.
+#[tactic(auto, unfolding(crate::specs::Leaves::enabled))]
 pub fn enabled(usage: ThreadUsage) -> Changed
     ensures { result ≡ enabled usage }
 {
@@ -131,6 +132,7 @@ pub fn disabled(usage: ThreadUsage) -> Changed
 }
 
 // The total never wraps: what would not fit is refused.
+#[tactic(auto, unfolding(crate::specs::Leaves::accumulated))]
 pub fn accumulated(usage: ThreadUsage, cycles: u32) -> Changed
     ensures { result ≡ accumulated usage cycles }
 {
@@ -263,6 +265,7 @@ pub fn stop_decide(usage0: u32) -> StopDecision
 }
 
 // The cycles of a window on average.
+#[tactic(auto, unfolding(crate::specs::Formulas::average_cycles))]
 pub fn average_cycles(total_cycles: Cycles, num_windows: u32) -> Cycles
     ensures { result ≡ average_cycles total_cycles num_windows }
 {

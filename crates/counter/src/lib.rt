@@ -1,5 +1,6 @@
 // 01's counter: the definition steps cycle by cycle, the code jumps.
 #![tactic(auto)]
+
 ghost use Rattle.std.specs.Prelude.{◌≡◌, ◌+◌, ◌≤◌};
 ghost use Rattle.error.specs.Numbers.{max64};
 ghost use Rattle.counter.specs.Cycle.{run_n, cleared};
@@ -30,6 +31,7 @@ pub enum Ran {
     Refused(Refusal),
 }
 
+#[tactic(auto, unfolding(crate::specs::Readings::good_period))]
 pub fn good_period(period: u32) -> bool
     ensures { result ≡ good_period period }
 {
@@ -37,6 +39,7 @@ pub fn good_period(period: u32) -> bool
 }
 
 // A counter as setup makes it: at its period, the flag clear, nothing run.
+#[tactic(auto, unfolding(crate::specs::Entries::started_of))]
 pub fn started(period: u32) -> Ran
     ensures { result ≡ started_of period }
 {
@@ -56,6 +59,7 @@ impl Counter {
 
     pub const MAX_PERIOD: u32 = 16777215;
 
+    #[tactic(auto, unfolding(crate::specs::Readings::in_range))]
     pub fn in_range(self) -> bool
         ensures { result ≡ in_range self }
     {
@@ -106,6 +110,7 @@ fn advanced(counter: Counter, n: u32) -> Counter
     }
 }
 
+#[tactic(auto, unfolding(crate::specs::Entries::ran_of))]
 pub fn run(counter: Counter, n: u32) -> Ran
     ensures { result ≡ ran_of counter n }
 {
@@ -118,6 +123,7 @@ pub fn run(counter: Counter, n: u32) -> Ran
     Ran::Refused(Refusal::Invalid)
 }
 
+#[tactic(auto, unfolding(crate::specs::Says::ran_says, crate::specs::Says::ran_why))]
 impl Ran {
     pub fn number(self) -> i32
         ensures { result ≡ (ran_says self).number }
@@ -176,6 +182,7 @@ pub fn sample_cycles(p: u32, q: u32, r: u32) -> u64
 
 // A sample's readings: p cycles to B, whose reading clears the flag, q to C, and r more. All are tested first, so that
 // nothing is refused once the flag is gone.
+#[tactic(auto, unfolding(crate::specs::Entries::readings_of))]
 pub fn readings(counter: Counter, p: u32, q: u32, r: u32) -> SampleRead
     ensures { result ≡ readings_of counter p q r }
 {
@@ -195,6 +202,7 @@ pub fn readings(counter: Counter, p: u32, q: u32, r: u32) -> SampleRead
     SampleRead::Refused(Refusal::Invalid)
 }
 
+#[tactic(auto, unfolding(crate::specs::Says::sample_read_says, crate::specs::Says::sample_read_why))]
 impl SampleRead {
     pub fn number(self) -> i32
         ensures { result ≡ (sample_read_says self).number }
@@ -223,6 +231,7 @@ pub enum ValueRead {
 }
 
 // 01's v of what the value register holds: the register shows 0 for the one cycle in which v is the period.
+#[tactic(auto, unfolding(crate::specs::Entries::value_of))]
 pub fn value_of(raw: u32, load: u32) -> ValueRead
     ensures { result ≡ value_of raw load }
 {
@@ -238,6 +247,7 @@ pub fn value_of(raw: u32, load: u32) -> ValueRead
     ValueRead::Refused(Refusal::Invalid)
 }
 
+#[tactic(auto, unfolding(crate::specs::Says::value_says))]
 impl ValueRead {
     pub fn number(self) -> i32
         ensures { result ≡ (value_says self).number }

@@ -1,5 +1,6 @@
 // One operation over the books and the one thread record that it concerns: each closed stretch is entered once.
 #![tactic(auto)]
+
 ghost use Rattle.std.specs.Prelude.{◌≡◌, cond, eqb};
 ghost use Rattle.books.specs.Entries.{charged, close_of, stop_of, switch_of, altered, reopen_of, alter_of, enter_of, open_of};
 ghost use Rattle.books.specs.Running.{is_running, stamp_of, nothing_booked, no_thread, unrecorded, past, busy, concerned};
@@ -44,6 +45,7 @@ pub enum Entered {
     Refused(Refusal),
 }
 
+#[tactic(auto, unfolding(crate::specs::Running::stamp_of))]
 fn stamp_of(reading: Cycles) -> u32
     ensures { result ≡ stamp_of reading.0 }
 {
@@ -54,6 +56,7 @@ fn stamp_of(reading: Cycles) -> u32
     low as u32
 }
 
+#[tactic(auto, unfolding(crate::specs::Running::is_running))]
 fn runs(books: Books, thread: u32) -> bool
     ensures { result ≡ is_running books thread }
 {
@@ -70,6 +73,7 @@ fn opened(books: Books, now: u32, thread: u32) -> Books
 }
 
 // An untracked thread's own total stays; the machine's gets every stretch.
+#[tactic(auto, unfolding(crate::specs::Entries::charged))]
 fn charged(usage: ThreadUsage, cycles: u32) -> Changed
     ensures { result ≡ charged usage cycles }
 {
@@ -80,6 +84,7 @@ fn charged(usage: ThreadUsage, cycles: u32) -> Changed
 }
 
 // Closes the open stretch, whose thread has the record handed in.
+#[tactic(auto, unfolding(crate::specs::Entries::close_of))]
 fn closed(books: Books, usage: ThreadUsage, now: u32) -> Entered
     ensures { result ≡ close_of books usage now }
 {
@@ -104,6 +109,7 @@ fn closed(books: Books, usage: ThreadUsage, now: u32) -> Entered
     })
 }
 
+#[tactic(auto, unfolding(crate::specs::Entries::stop_of))]
 fn stopped(books: Books, usage: ThreadUsage, now: u32) -> Entered
     ensures { result ≡ stop_of books usage now }
 {
@@ -118,6 +124,7 @@ fn stopped(books: Books, usage: ThreadUsage, now: u32) -> Entered
 }
 
 // One stamp both closes and opens, so that no cycle is lost or counted twice between two threads.
+#[tactic(auto, unfolding(crate::specs::Entries::switch_of))]
 fn switched(books: Books, usage: ThreadUsage, now: u32, thread: u32) -> Entered
     ensures { result ≡ switch_of books usage now thread }
 {
@@ -134,6 +141,7 @@ fn switched(books: Books, usage: ThreadUsage, now: u32, thread: u32) -> Entered
     })
 }
 
+#[tactic(auto, unfolding(crate::specs::Entries::altered))]
 fn altered(usage: ThreadUsage, on: bool) -> Changed
     ensures { result ≡ altered usage on }
 {
@@ -145,6 +153,7 @@ fn altered(usage: ThreadUsage, on: bool) -> Changed
 }
 
 // Enable or disable. The stretch of a running thread is closed under the old flag and opened under the new one.
+#[tactic(auto, unfolding(crate::specs::Entries::alter_of))]
 fn flagged(books: Books, usage: ThreadUsage, now: u32, thread: u32, on: bool) -> Entered
     ensures { result ≡ alter_of books usage now thread on }
 {
@@ -169,6 +178,7 @@ fn flagged(books: Books, usage: ThreadUsage, now: u32, thread: u32, on: bool) ->
     })
 }
 
+#[tactic(auto, unfolding(crate::specs::Entries::reopen_of))]
 fn reopened(books: Books, usage: ThreadUsage, now: u32, thread: u32, on: bool) -> Entered
     ensures { result ≡ reopen_of books usage now thread on }
 {
@@ -190,6 +200,7 @@ fn reopened(books: Books, usage: ThreadUsage, now: u32, thread: u32, on: bool) -
 }
 
 // An operation's entry at a stamp, once its tests are made.
+#[tactic(auto, unfolding(crate::specs::Entries::enter_of))]
 fn enter_at(books: Books, usage: ThreadUsage, now: u32, operation: Operation) -> Entered
     ensures { result ≡ enter_of books usage now operation }
 {
@@ -206,6 +217,7 @@ fn enter_at(books: Books, usage: ThreadUsage, now: u32, operation: Operation) ->
     }
 }
 
+#[tactic(auto, unfolding(crate::specs::Says::entered_says, crate::specs::Says::entered_why))]
 impl Entered {
     pub fn number(self) -> i32
         ensures { result ≡ (entered_says self).number }
@@ -235,6 +247,7 @@ pub fn no_thread(slots: usize, thread: u32) -> bool
 }
 
 // Whether a thread runs that has no record.
+#[tactic(auto, unfolding(crate::specs::Running::unrecorded))]
 pub fn unrecorded(books: Books, slots: usize) -> bool
     ensures { result ≡ unrecorded books slots }
 {
@@ -242,6 +255,7 @@ pub fn unrecorded(books: Books, slots: usize) -> bool
 }
 
 // Whether the operation names a thread past a table of so many slots.
+#[tactic(auto, unfolding(crate::specs::Running::past))]
 pub fn past(operation: Operation, slots: usize) -> bool
     ensures { result ≡ past operation slots }
 {
@@ -255,6 +269,7 @@ pub fn past(operation: Operation, slots: usize) -> bool
 }
 
 // Whether it is a start while one runs.
+#[tactic(auto, unfolding(crate::specs::Running::busy))]
 pub fn busy(books: Books, operation: Operation) -> bool
     ensures { result ≡ busy books operation }
 {
@@ -269,6 +284,7 @@ pub fn busy(books: Books, operation: Operation) -> bool
 
 // An operation over the books and the one record that it concerns, which is given back: the same cost for any number of
 // threads. Which record that is `concerned` tells, and whether the table has it `past` and `unrecorded`.
+#[tactic(auto, unfolding(crate::specs::Enter::entry_of))]
 pub fn enter(books: Books, usage: ThreadUsage, reading: Cycles, operation: Operation) -> Entered
     ensures { result ≡ entry_of books usage reading operation }
 {
@@ -290,6 +306,7 @@ fn going(books: Books, named: u32) -> u32
 }
 
 // The thread whose record the operation concerns.
+#[tactic(auto, unfolding(crate::specs::Running::concerned))]
 pub fn concerned(books: Books, operation: Operation) -> u32
     ensures { result ≡ concerned books operation }
 {

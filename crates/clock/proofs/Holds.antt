@@ -28,7 +28,7 @@ pub record HoldsAlways (period tick : ℕ) (w : World) : Type 0 where
   -- no run from setup is taken for malformed
   pub formed : well_formed w.timer ≡ true
   pub fits : w.timer.counter.cycles.0 ≤ max64
-  pub never_ahead : NeverAhead period w.read w.cyclesC
+  pub never_ahead : NeverAhead period w.read w.cycles_c
   pub announce_accepted : (a : Announcement) × (announce_of w.timer ≡ A.Accepted a)
   -- a sample is accepted unless the overflow has no room for it or T would pass 2^64 - 1
   pub sample_accepted :
@@ -55,7 +55,7 @@ AnnouncedIn period tick w = Tells period tick w.timer.clock.announced.0 w.timer.
 -- under demand 3's premises
 pub record True (w : World) : Type 0 where
   -- the last reading equals the cycles run by then
-  pub reads : w.read ≡ w.cyclesC
+  pub reads : w.read ≡ w.cycles_c
   -- each real wrap up to the last C was answered by one sample
   pub sees : w.seen ≡ w.before
 

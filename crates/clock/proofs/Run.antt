@@ -50,7 +50,7 @@ after_run w n (R.Accepted counter) = record {
   timer = record { counter = counter; clock = w.timer.clock };
   before = w.before;
   since = w.since + wraps n w.timer.counter;
-  cycles_c = w.cyclesC;
+  cycles_c = w.cycles_c;
   seen = w.seen;
   read = w.read;
   told = w.told;
@@ -70,7 +70,7 @@ after_sample w g (S.Accepted taken) = record {
 after_sample w g (S.Refused why) = w
 
 abbrev pub after_announce : World → Announced → World
-after_announce w (A.Accepted announcement) = record { timer = announcement.timer; before = w.before; since = w.since; cycles_c = w.cyclesC; seen = w.seen; read = w.read; told = w.told + announcement.dticks.0 }
+after_announce w (A.Accepted announcement) = record { timer = announcement.timer; before = w.before; since = w.since; cycles_c = w.cycles_c; seen = w.seen; read = w.read; told = w.told + announcement.dticks.0 }
 after_announce w (A.Refused why) = w
 
 unfoldable pub step : Event → World → World

@@ -23,7 +23,7 @@ pub record Kept (l tick : ℕ) (w : World) : Type 0 where
   pub same_tick : w.timer.clock.tick ≡ tick
   pub last : w.timer.clock.last.0 ≡ w.read
   pub told : w.timer.clock.announced.0 ≡ w.told * tick
-  pub never_ahead : NeverAhead l w.read w.cyclesC
+  pub never_ahead : NeverAhead l w.read w.cycles_c
 
 step_keeps : (l tick : ℕ) (e : Event) (w : World) → Kept l tick w → Kept l tick (step e w)
 unfolding step
@@ -46,7 +46,7 @@ keeps l tick [] w k = k
 keeps l tick (e ∷ es) w k = keeps l tick es (step e w) (step_keeps l tick e w k)
 
 FaithfulWorld : ℕ → World → Type 0
-FaithfulWorld l w = Faithful l w.before w.since w.timer × (w.read ≡ w.cyclesC)
+FaithfulWorld l w = Faithful l w.before w.since w.timer × (w.read ≡ w.cycles_c)
 
 fair_step : (l : ℕ) (e : Event) (w : World) → FaithfulWorld l w → FairEvent e w → FaithfulWorld l (step e w)
 unfolding step FaithfulWorld

@@ -2,7 +2,7 @@
 use Prim.Native.Nat.{ℕ, ◌+◌, ◌-◌, ◌*◌, ◌≤◌}
 use mathlib.Core.Path.{◌≡◌}
 use mathlib.Core.Bool.{true}
-use borrow.Author.Tests.{ltb-false, not_false}
+use borrow.Author.Tests.{ltb-false, not-false}
 use Rattle.error.specs.declared.Refusal.{Refusal}
 use Rattle.error.specs.Numbers.{max32, max64}
 use Rattle.error.proofs.Ordered.{by_outcome}
@@ -27,7 +27,7 @@ pub ran_by : (c : Counter) (n : ℕ) (P : Ran → Type 0) → ((why : Refusal) �
 unfolding ran_of
 ran_by c n P refused f =
     by_outcome R.Refused (R.Accepted (run_n n c)) P (run_tests c n) refused
-    (λ none. f (not_false _ none.0) (ltb-false _ _ none.1.0))
+    (λ none. f (not-false _ none.0) (ltb-false _ _ none.1.0))
 
 -- a sample that the tests let through
 pub record SampleLet (t : Timer) (g : Gaps) : Type 0 where
@@ -39,7 +39,7 @@ pub sampled_by : (t : Timer) (g : Gaps) (P : Sampled → Type 0) → ((why : Ref
 unfolding sample_of
 sampled_by t g P refused f =
     by_outcome S.Refused (S.Accepted (sample_value t g)) P (sample_tests t g) refused
-    (λ none. f (record { formed = not_false _ none.0; room = ltb-false _ _ none.1.0; fits = ltb-false _ _ none.1.1.0 }))
+    (λ none. f (record { formed = not-false _ none.0; room = ltb-false _ _ none.1.0; fits = ltb-false _ _ none.1.1.0 }))
 
 -- an announcement that the tests let through, the leaf's own among them
 pub record AnnounceLet (t : Timer) : Type 0 where
@@ -50,4 +50,4 @@ pub announced_by : (t : Timer) (P : Announced → Type 0) → ((why : Refusal) �
 unfolding announce_of
 announced_by t P refused f =
     by_outcome A.Refused (A.Accepted (announcement t)) P (announcement_tests t) refused
-    (λ none. f (record { formed = not_false _ none.0; order = ltb-false _ _ none.1.1.1.0 }))
+    (λ none. f (record { formed = not-false _ none.0; order = ltb-false _ _ none.1.1.1.0 }))

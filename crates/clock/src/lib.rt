@@ -1,5 +1,6 @@
 // 01's clock over the counter: setup, a sample and an announcement, each tested before anything is touched.
 #![tactic(auto)]
+
 ghost use Rattle.std.specs.Prelude.{◌≡◌, cond, ◌+◌, ◌≤◌, leb};
 ghost use Rattle.counter.specs.Cycle.{cleared};
 ghost use Rattle.clock.specs.Timer.{bad_setup, accounted_for, well_formed};
@@ -89,6 +90,7 @@ pub fn bad_setup(period: u32, tick: u32) -> bool
     !(counter::good_period(period) & (tick != 0))
 }
 
+#[tactic(auto, unfolding(crate::specs::Entries::set_up))]
 pub fn set_up(period: u32, tick: u32) -> SetUp
     ensures { result ≡ set_up period tick }
 {
@@ -143,6 +145,7 @@ fn behind(timer: Timer) -> bool
     sum_within(clock.count.0, part, counter.cycles.0)
 }
 
+#[tactic(auto, unfolding(crate::specs::Timer::well_formed))]
 pub fn well_formed(timer: Timer) -> bool
     ensures { result ≡ well_formed timer }
 {
@@ -209,6 +212,7 @@ fn taken(timer: Timer, gaps: Gaps) -> Sampled
     Sampled::Accepted(sample_taken(clock, d, reading, settled(d.wrap_detected, read.after)))
 }
 
+#[tactic(auto, unfolding(crate::specs::Entries::sample_of))]
 pub fn sample(timer: Timer, gaps: Gaps) -> Sampled
     ensures { result ≡ sample_of timer gaps }
 {
@@ -247,6 +251,7 @@ fn announcement_made(timer: Timer, d: AnnounceDecideResult) -> Announcement
     }
 }
 
+#[tactic(auto, unfolding(crate::specs::Announce::announce_of))]
 pub fn announce(timer: Timer) -> Announced
     ensures { result ≡ announce_of timer }
 {
@@ -263,6 +268,7 @@ pub fn announce(timer: Timer) -> Announced
     Announced::Refused(Refusal::Invalid)
 }
 
+#[tactic(auto, unfolding(crate::specs::Says::set_up_says, crate::specs::Says::set_up_why))]
 impl SetUp {
     pub fn number(self) -> i32
         ensures { result ≡ (set_up_says self).number }
@@ -284,6 +290,7 @@ impl SetUp {
     }
 }
 
+#[tactic(auto, unfolding(crate::specs::Says::sampled_says, crate::specs::Says::sampled_why))]
 impl Sampled {
     pub fn number(self) -> i32
         ensures { result ≡ (sampled_says self).number }
@@ -332,6 +339,7 @@ impl Sampled {
     }
 }
 
+#[tactic(auto, unfolding(crate::specs::Says::announced_says, crate::specs::Says::announced_why))]
 impl Announced {
     pub fn number(self) -> i32
         ensures { result ≡ (announced_says self).number }

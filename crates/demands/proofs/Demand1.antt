@@ -116,13 +116,13 @@ module _ {slots period tick : ℕ} (some : 0 < slots) (good : GoodSetup period t
   l = w.machine.ledger
 
   -- where an operation's last row holds, a count of windows is full
-  window_full : (g : Gaps) (op : Operation) → FairSample period w.ran w.atC g → (stepping.task_step m (T.Sample g (W.Operate op))).outcome ≡ Told.Refused Why.WontFit → rises op (concerned_record l op).track_usage && eqb (concerned_record l op).num_windows max32 ≡ true
+  window_full : (g : Gaps) (op : Operation) → FairSample period w.ran w.at_c g → (stepping.task_step m (T.Sample g (W.Operate op))).outcome ≡ Told.Refused Why.WontFit → rises op (concerned_record l op).track_usage && eqb (concerned_record l op).num_windows max32 ≡ true
   unfolding full last_rows asked_by
   window_full g op fair e =
       let same = held.same in
       let p = stepping.touches_sum m (T.Sample g (W.Operate op)) e in
       let reading = reads_true some good w held g fair (stepping.sample_accepted m g (W.Operate op) p.0) in
-      let cycles : m.timer.counter.cycles.0 ≡ w.ran = ap (λ (t : Timer). t.counter.cycles.0) same.timer ∙ cycles_are period w.ran w.atC (clock.after same.events (clock.start period tick)) same.tracks in
+      let cycles : m.timer.counter.cycles.0 ≡ w.ran = ap (λ (t : Timer). t.counter.cycles.0) same.timer ∙ cycles_are period w.ran w.at_c (clock.after same.events (clock.start period tick)) same.tracks in
       let below = ltb-false max64 (m.timer.counter.cycles.0 + cycles_of g) p.0.passed.fits in
       let fit = rw (sym same.entered) at (sums_fit slots some same.entries (time_c w.ran g) (later 0 same.entries w.ran (time_c w.ran g) held.timely (omega arith)) (omega arith) op) in
       second_of _ _ fit (rw reading at (holds p.1))
@@ -132,7 +132,7 @@ module _ {slots period tick : ℕ} (some : 0 < slots) (good : GoodSetup period t
       holds (inr rest) = absurd rest.1
 
   -- what is no operation has no such row, and of the operations only enable a window
-  no_sum : (r : Record) → Fair period w.ran w.atC (does_of r 0) → (stepping.task_step m (task_of r)).outcome ≡ Told.Refused Why.WontFit → FirstIs (last_rows m (task_of r)) Why.WontFit → (i : ℕ) × (g : Gaps) × (r ≡ K.Enable i g) × ((thread_record l i).num_windows ≡ max32)
+  no_sum : (r : Record) → Fair period w.ran w.at_c (does_of r 0) → (stepping.task_step m (task_of r)).outcome ≡ Told.Refused Why.WontFit → FirstIs (last_rows m (task_of r)) Why.WontFit → (i : ℕ) × (g : Gaps) × (r ≡ K.Enable i g) × ((thread_record l i).num_windows ≡ max32)
   unfolding rises concerned task_of last_rows
   no_sum (K.Run p) fair e first = absurd first
   no_sum (K.Sample g) fair e first = absurd first

@@ -67,15 +67,15 @@ module _ {slots period tick : ℕ} (some : 0 < slots) (good : GoodSetup period t
   last_is : timer.clock.last.0 ≡ world.read
   last_is = ap (λ (t : Timer). t.clock.last.0) same.timer ∙ (clock-runs.every_run period tick good same.events).always.last
 
-  no_wrap_twice : counted ≤ wraps_by period w.atC * period
+  no_wrap_twice : counted ≤ wraps_by period w.at_c * period
   no_wrap_twice =
-      let below : timer.clock.last.0 ≤ w.atC = rw (last_is, ← same.tracks.at_c_is) (clock-runs.every_run period tick good same.events).always.never_ahead.below in
-      rw (told.whole, wraps_are period tick good w.atC) (mul-le-mul_right period (quotients_keep_order _ _ period (above period tick good) below))
+      let below : timer.clock.last.0 ≤ w.at_c = rw (last_is, ← same.tracks.at_c_is) (clock-runs.every_run period tick good same.events).always.never_ahead.below in
+      rw (told.whole, wraps_are period tick good w.at_c) (mul-le-mul_right period (quotients_keep_order _ _ period (above period tick good) below))
 
   always : Always step_of period tick w
   always = record {
     announcement = announcement;
-    cycles = ap (λ (t : Timer). t.counter.cycles.0) same.timer ∙ cycles_are period w.ran w.atC world same.tracks;
+    cycles = ap (λ (t : Timer). t.counter.cycles.0) same.timer ∙ cycles_are period w.ran w.at_c world same.tracks;
     announced = same.told;
     no_wrap_twice = no_wrap_twice;
     rise = same.rise;
@@ -83,7 +83,7 @@ module _ {slots period tick : ℕ} (some : 0 < slots) (good : GoodSetup period t
 
 -- and in a fair run
 module _ {slots period tick : ℕ} (some : 0 < slots) (good : GoodSetup period tick) (w : Watched) (held : True slots period tick w) where
-  shows : (g : Gaps) (answered : Values) → FairSample period w.ran w.atC g → (step_of w.machine (D.Accepted (K.Sample g))).outcome ≡ Told.Accepted answered → w.machine.timer.clock.count.0 + answered.x ≡ time_c w.ran g
+  shows : (g : Gaps) (answered : Values) → FairSample period w.ran w.at_c g → (step_of w.machine (D.Accepted (K.Sample g))).outcome ≡ Told.Accepted answered → w.machine.timer.clock.count.0 + answered.x ≡ time_c w.ran g
   unfolding done_by task_of
   shows g answered fair e =
       let accepted = stepping.sample_accepted w.machine g W.Tell (stepping.touches_accepted w.machine (T.Sample g W.Tell) answered (rw (stepping.of_task w.machine (K.Sample g)) at e)) in
@@ -97,8 +97,8 @@ module _ {slots period tick : ℕ} (some : 0 < slots) (good : GoodSetup period t
       record {
         reads = ap (λ (t : Timer). t.clock.last.0) same.timer ∙ (run.always.last ∙ ((run.faithful held.fair).reads ∙ same.tracks.at_c_is));
         each_wrap_once =
-            let reads : w.machine.timer.clock.last.0 ≡ w.atC = last_is some good w same ∙ ((run.faithful held.fair).reads ∙ same.tracks.at_c_is) in
-            (told some good w same).whole ∙ rw (reads, wraps_are period tick good w.atC) refl;
+            let reads : w.machine.timer.clock.last.0 ≡ w.at_c = last_is some good w same ∙ ((run.faithful held.fair).reads ∙ same.tracks.at_c_is) in
+            (told some good w same).whole ∙ rw (reads, wraps_are period tick good w.at_c) refl;
         shows = shows;
         totals = λ i. rw (same.entered, held.threads) (near.threads i);
         chain = rw (held.threads, held.printed) near.chain;

@@ -71,17 +71,17 @@ module _ (w : Watched) (x : clock.World) (together : w.machine.timer ≡ x.timer
   entries_by : (task : Task) → Touches m task → List ledger.Event
   entries_by task t = (moved m x together task ready announced t).entries
 
-  module _ (period : ℕ) (reads : (g : Gaps) → FairSample period w.ran w.atC g → Samples (core_of m) g → (sample_value m.timer g).reading.0 ≡ time_c w.ran g) where
+  module _ (period : ℕ) (reads : (g : Gaps) → FairSample period w.ran w.at_c g → Samples (core_of m) g → (sample_value m.timer g).reading.0 ≡ time_c w.ran g) where
     -- no time falls
     none_more : (es : List ledger.Event) (to : ℕ) → Timely 0 es to → Timely 0 (es ++ []) to
     none_more es to timely = subst (λ (l : List ledger.Event). Timely 0 l to) (sym (append-nil es)) timely
 
-    one_more : (g : Gaps) (op : Operation) → Touches m (T.Sample g (W.Operate op)) → FairSample period w.ran w.atC g → (es : List ledger.Event) → Timely 0 es w.ran → Timely 0 (es ++ entry_at m g op ∷ []) (w.ran + cycles_of g)
+    one_more : (g : Gaps) (op : Operation) → Touches m (T.Sample g (W.Operate op)) → FairSample period w.ran w.at_c g → (es : List ledger.Event) → Timely 0 es w.ran → Timely 0 (es ++ entry_at m g op ∷ []) (w.ran + cycles_of g)
     one_more g op t fair es timely =
         let is = reads g fair (stepping.sample_accepted m g (W.Operate op) t) in
         one_later 0 es (entry_at m g op) (w.ran + cycles_of g) (later 0 es w.ran (sample_value m.timer g).reading.0 timely (omega arith)) (omega arith)
 
-    on_time : (task : Task) (t : Touches m task) (n : ℕ) → Fair period w.ran w.atC (task_does task n) → (es : List ledger.Event) → Timely 0 es w.ran → Timely 0 (es ++ entries_by task t) (seen (task_does task n) (task_step m task).machine w).ran
+    on_time : (task : Task) (t : Touches m task) (n : ℕ) → Fair period w.ran w.at_c (task_does task n) → (es : List ledger.Event) → Timely 0 es w.ran → Timely 0 (es ++ entries_by task t) (seen (task_does task n) (task_step m task).machine w).ran
     unfolding seen moved entries_by idle operation
     on_time (T.Run p) t n fair es timely = none_more es _ (later 0 es w.ran (w.ran + p) timely (omega arith))
     on_time (T.Sample g W.Tell) t n fair es timely = none_more es _ (later 0 es w.ran (w.ran + cycles_of g) timely (omega arith))
@@ -95,7 +95,7 @@ module _ (w : Watched) (x : clock.World) (together : w.machine.timer ≡ x.timer
       abbrev Tells : Does → List ledger.Event → Type 0
       Tells d es = ((ledger.after es lw).threads ≡ (seen d next w).threads) × ((ledger.after es lw).answered ≡ (seen d next w).since)
 
-      told_operation : (g : Gaps) (op : Operation) → Touches m (T.Sample g (W.Operate op)) → FairSample period w.ran w.atC g → (values : Values) → (task_step m (T.Sample g (W.Operate op))).outcome ≡ Told.Accepted values → Tells (operates op g values.x) (entry_at m g op ∷ [])
+      told_operation : (g : Gaps) (op : Operation) → Touches m (T.Sample g (W.Operate op)) → FairSample period w.ran w.at_c g → (values : Values) → (task_step m (T.Sample g (W.Operate op))).outcome ≡ Told.Accepted values → Tells (operates op g values.x) (entry_at m g op ∷ [])
       unfolding seen ledger.after
       told_operation g op t fair values e =
           let reading = (sample_value m.timer g).reading in
@@ -104,7 +104,7 @@ module _ (w : Watched) (x : clock.World) (together : w.machine.timer ≡ x.timer
           let is = reads g fair (stepping.sample_accepted m g (W.Operate op) t) in
           (done.0 ∙ rw (th, is) refl, done.1 ∙ rw (th, pr) refl)
 
-      tells : (task : Task) (t : Touches m task) (values : Values) → Fair period w.ran w.atC (task_does task values.x) → (task_step m task).outcome ≡ Told.Accepted values → Tells (task_does task values.x) (entries_by task t)
+      tells : (task : Task) (t : Touches m task) (values : Values) → Fair period w.ran w.at_c (task_does task values.x) → (task_step m task).outcome ≡ Told.Accepted values → Tells (task_does task values.x) (entries_by task t)
       unfolding seen moved entries_by ledger.after idle operation
       tells (T.Run p) t values fair e = (th, pr)
       tells (T.Sample g W.Tell) t values fair e = (th, pr)
@@ -128,22 +128,22 @@ module _ {slots period tick : ℕ} (some : 0 < slots) (good : GoodSetup period t
     abbrev x : clock.World
     x = clock.after held.same.events (clock.start period tick)
 
-    fair_event : (g : Gaps) → FairSample period w.ran w.atC g → Samples (core_of w.machine) g → clock.FairRun (clock.sample g ∷ []) x
+    fair_event : (g : Gaps) → FairSample period w.ran w.at_c g → Samples (core_of w.machine) g → clock.FairRun (clock.sample g ∷ []) x
     fair_event g fair accepted =
         let there : sample_of x.timer g ≡ S.Accepted (sample_value x.timer g) = subst (λ (t : Timer). sample_of t g ≡ S.Accepted (sample_value t g)) held.same.timer accepted in
-        (rw there (fair_sample period w.ran w.atC x held.same.tracks g fair), tt)
+        (rw there (fair_sample period w.ran w.at_c x held.same.tracks g fair), tt)
 
-    pub reads_true : (g : Gaps) → FairSample period w.ran w.atC g → Samples (core_of w.machine) g → (sample_value w.machine.timer g).reading.0 ≡ time_c w.ran g
+    pub reads_true : (g : Gaps) → FairSample period w.ran w.at_c g → Samples (core_of w.machine) g → (sample_value w.machine.timer g).reading.0 ≡ time_c w.ran g
     unfolding clock.after clock.step
     reads_true g fair accepted =
         let same = held.same in
         let here = fair_on same.events (clock.sample g ∷ []) (clock.start period tick) held.fair (fair_event g fair accepted) in
         let reads = ((every_run period tick good (same.events ++ clock.sample g ∷ [])).faithful here).reads in
         rw (on_and_on same.events (clock.sample g ∷ []) (clock.start period tick), sym same.timer, accepted) at reads ∙
-        time_is period w.ran w.atC x same.tracks g
+        time_is period w.ran w.at_c x same.tracks g
 
     -- the clock's premises are ours
-    fair_time : (task : Task) → Touches w.machine task → (n : ℕ) → Fair period w.ran w.atC (task_does task n) → clock.FairRun (time_of task) x
+    fair_time : (task : Task) → Touches w.machine task → (n : ℕ) → Fair period w.ran w.at_c (task_does task n) → clock.FairRun (time_of task) x
     unfolding time_of
     fair_time (T.Run p) t n fair = (tt, tt)
     fair_time (T.Sample g W.Tell) t n fair = fair_event g fair (stepping.sample_accepted w.machine g W.Tell t)
@@ -153,7 +153,7 @@ module _ {slots period tick : ℕ} (some : 0 < slots) (good : GoodSetup period t
     fair_time (T.Setup s) t n fair = tt
 
 module _ {slots period tick : ℕ} (some : 0 < slots) (good : GoodSetup period tick) where
-  module _ (w : Watched) (task : Task) (held : True slots period tick w) (t : Touches w.machine task) (n : ℕ) (fair : Fair period w.ran w.atC (task_does task n)) where
+  module _ (w : Watched) (task : Task) (held : True slots period tick w) (t : Touches w.machine task) (n : ℕ) (fair : Fair period w.ran w.at_c (task_does task n)) where
     abbrev after : Machine
     after = (task_step w.machine task).machine
 
@@ -195,7 +195,7 @@ module _ {slots period tick : ℕ} (some : 0 < slots) (good : GoodSetup period t
     ledger_here = ledger.after same.entries (ledger.begin slots)
 
     FairTask : Task → Type 0
-    FairTask task = Fair period w.ran w.atC (happened_by task (task_step w.machine task).outcome)
+    FairTask task = Fair period w.ran w.at_c (happened_by task (task_step w.machine task).outcome)
 
     sum_true : (g : Gaps) (op : Operation) → (task_step w.machine (T.Sample g (W.Operate op))).outcome ≡ Told.Refused Why.WontFit → Touches w.machine (T.Sample g (W.Operate op)) → FairTask (T.Sample g (W.Operate op)) → True slots period tick (after_task (T.Sample g (W.Operate op)) w)
     unfolding FairTask happened_by columns seen answered_of told_of
@@ -217,10 +217,10 @@ module _ {slots period tick : ℕ} (some : 0 < slots) (good : GoodSetup period t
         by_ending (summed g op is e t) = rw is (sum_true g op e t (rw is at fair))
         by_ending (left why e before stays) = rw (e, before) (left_true w _ stays held)
 
-  pub watch_true : (d : Decoded) (w : Watched) → Fair period w.ran w.atC (happened d (step_of w.machine d).outcome) → True slots period tick w → True slots period tick (watch step_of d w)
+  pub watch_true : (d : Decoded) (w : Watched) → Fair period w.ran w.at_c (happened d (step_of w.machine d).outcome) → True slots period tick w → True slots period tick (watch step_of d w)
   unfolding FairTask happened
   watch_true (D.Accepted r) w fair held =
-      subst (True slots period tick) (sym (watched_task r w)) (task_true w held (task_of r) (subst (Fair period w.ran w.atC) (happened_is w.machine r) fair))
+      subst (True slots period tick) (sym (watched_task r w)) (task_true w held (task_of r) (subst (Fair period w.ran w.at_c) (happened_is w.machine r) fair))
   watch_true (D.Refused why) w fair held = left_true w _ (refused_left w.machine why) held
 
   pub all_true : (ds : List Decoded) (w : Watched) → FairTrace step_of period ds w → True slots period tick w → True slots period tick (watch_all step_of ds w)

@@ -203,19 +203,19 @@ module _ (m : Machine) (x : clock.World) (together : m.timer ≡ x.timer) where
   moved (T.Setup s) ready a t = absurd (stepping.no_setup m s ready t)
 
   -- the cycles that a touched task runs, by 01's counter
-  module _ (period : ℕ) (w : Watched) (k : Tracks period w.ran w.atC x) (after : Machine) (n : ℕ) where
+  module _ (period : ℕ) (w : Watched) (k : Tracks period w.ran w.at_c x) (after : Machine) (n : ℕ) where
     unfoldable pub Follows : Task → Type 0
     Follows task = Tracks period (seen (task_does task n) after w).ran (seen (task_does task n) after w).at_c (clock.after (time_of task) x)
 
     sample_follows : (g : Gaps) → Samples (core_of m) g → Tracks period (w.ran + cycles_of g) (time_c w.ran g) (clock.step (clock.sample g) x)
-    sample_follows g accepted = tracks_sample period w.ran w.atC x k g (subst (λ (t : Timer). sample_of t g ≡ S.Accepted (sample_value t g)) together accepted)
+    sample_follows g accepted = tracks_sample period w.ran w.at_c x k g (subst (λ (t : Timer). sample_of t g ≡ S.Accepted (sample_value t g)) together accepted)
 
     pub follows : (task : Task) → m.ready ≡ true → Touches m task → Follows task
     unfolding Follows seen time_of clock.after
-    follows (T.Run p) ready t = tracks_run period w.ran w.atC x k p (subst (λ (t : Timer). ran_of t.counter p ≡ R.Accepted (run_n p t.counter)) together (stepping.runs_accepted m p t))
+    follows (T.Run p) ready t = tracks_run period w.ran w.at_c x k p (subst (λ (t : Timer). ran_of t.counter p ≡ R.Accepted (run_n p t.counter)) together (stepping.runs_accepted m p t))
     follows (T.Sample g W.Tell) ready t = sample_follows g (stepping.sample_accepted m g W.Tell t)
     follows (T.Sample g (W.Operate op)) ready t = sample_follows g (stepping.sample_accepted m g (W.Operate op) t)
-    follows T.Announce ready t = tracks_announce period w.ran w.atC x k
+    follows T.Announce ready t = tracks_announce period w.ran w.at_c x k
     follows (T.Report i) ready t = k
     follows (T.Setup s) ready t = absurd (stepping.no_setup m s ready t)
 

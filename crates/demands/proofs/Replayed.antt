@@ -60,7 +60,7 @@ ends_true slots period tick some good trace before ds none begins fair =
     let held = all_true some good ds (at_setup step_of slots period tick) fair (begin_true slots period tick good) in
     let same = held.same in
     let left = sym (same_run ds (at_setup step_of slots period tick)) in
-    let cycles = ap (λ (t : Timer). t.counter.cycles.0) same.timer ∙ cycles_are period w.ran w.atC (clock.after same.events (clock.start period tick)) same.tracks in
+    let cycles = ap (λ (t : Timer). t.counter.cycles.0) same.timer ∙ cycles_are period w.ran w.at_c (clock.after same.events (clock.start period tick)) same.tracks in
     let last = ((demand3 slots period tick some good ds).1 fair).reads in
     rw (begins, none_yet slots before (D.Accepted (K.Setup (record { period = period; tick = tick })) ∷ ds) none, left, same.ready, cycles, last) refl
 

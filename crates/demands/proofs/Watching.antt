@@ -92,7 +92,7 @@ pub record Same (slots period tick : ℕ) (w : Watched) : Type 0 where
   pub ready : w.machine.ready ≡ true
   pub events : List clock.Event
   pub timer : w.machine.timer ≡ (clock.after events (clock.start period tick)).timer
-  pub tracks : Tracks period w.ran w.atC (clock.after events (clock.start period tick))
+  pub tracks : Tracks period w.ran w.at_c (clock.after events (clock.start period tick))
   pub entries : List ledger.Event
   pub entered : w.machine.ledger ≡ (ledger.after entries (ledger.begin slots)).ledger
   pub rise : Rise w

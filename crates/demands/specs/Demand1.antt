@@ -32,7 +32,7 @@ module _ (step : Machine → Decoded → Stepped) (period : ℕ) where
   abbrev pub NoSumRefused : Watched → Type 0
   NoSumRefused w =
       (r : Record) →
-      Fair period w.ran w.atC (does_of r 0) →
+      Fair period w.ran w.at_c (does_of r 0) →
       (step w.machine (D.Accepted r)).outcome ≡ Told.Refused Why.WontFit →
       (i : ℕ) × (g : Gaps) × (r ≡ K.Enable i g) × ((thread_record w.machine.ledger i).num_windows ≡ max32)
 

@@ -30,17 +30,17 @@ module _ (step : Machine → Decoded → Stepped) (period tick : ℕ) where
     pub cycles : w.machine.timer.counter.cycles.0 ≡ w.ran
     pub announced : w.machine.timer.clock.announced.0 ≡ w.ticks * tick
     -- no wrap is counted twice: the whole periods counted are at most the real wraps up to the last C
-    pub no_wrap_twice : w.machine.timer.clock.count.0 + w.machine.timer.clock.overflow ≤ wraps_by period w.atC * period
+    pub no_wrap_twice : w.machine.timer.clock.count.0 + w.machine.timer.clock.overflow ≤ wraps_by period w.at_c * period
     -- the machine total has risen since the last start by the cycles answered since
     pub rise : w.machine.ledger.books.total.0 ≡ w.before + w.since
 
   -- in a fair run
   pub record Fairly (w : Watched) : Type 0 where
     -- each clock reading equals the cycles run by then
-    pub reads : w.machine.timer.clock.last.0 ≡ w.atC
+    pub reads : w.machine.timer.clock.last.0 ≡ w.at_c
     -- and each real wrap up to then is counted, once
-    pub each_wrap_once : w.machine.timer.clock.count.0 + w.machine.timer.clock.overflow ≡ wraps_by period w.atC * period
-    pub shows : (g : Gaps) (answered : Values) → FairSample period w.ran w.atC g → (step w.machine (D.Accepted (K.Sample g))).outcome ≡ Told.Accepted answered → w.machine.timer.clock.count.0 + answered.x ≡ time_c w.ran g
+    pub each_wrap_once : w.machine.timer.clock.count.0 + w.machine.timer.clock.overflow ≡ wraps_by period w.at_c * period
+    pub shows : (g : Gaps) (answered : Values) → FairSample period w.ran w.at_c g → (step w.machine (D.Accepted (K.Sample g))).outcome ≡ Told.Accepted answered → w.machine.timer.clock.count.0 + answered.x ≡ time_c w.ran g
     -- each thread's total misses its true tracked cycles, over closed stretches, by at most one per stretch that begins or ends on a multiple of 2^32, where none exceeds 2^32 - 2 cycles
     pub totals : (i : ℕ) → TotalNear i (thread_record w.machine.ledger i).total_cycles.0 w.threads.closed
     -- all stretches since one start, summed as they were answered, miss by at most one

@@ -42,7 +42,7 @@ EndsTrue =
     whole_records trace ≡ before ++ D.Accepted (K.Setup (record { period = period; tick = tick })) ∷ ds →
     FairTrace step_of period ds (at_setup step_of slots period tick) →
     let w = watch_all step_of ds (at_setup step_of slots period tick) in
-    last_of (length trace % 16) (machine_after (fresh_machine slots) (whole_records trace)) ≡ last_text (length trace % 16) w.ran w.atC
+    last_of (length trace % 16) (machine_after (fresh_machine slots) (whole_records trace)) ≡ last_text (length trace % 16) w.ran w.at_c
 
 -- the first n items from a place on, up to the end
 abbrev pub handed_by : Item → List Decoded → List Decoded

@@ -73,10 +73,10 @@ abbrev pub Quick : Gaps → Type 0
 Quick g = g.p + g.q < 10
 
 abbrev pub OneWrapAfter : List Record → Gaps → Type 0
-OneWrapAfter rs g = let w = after (taken rs) in wraps_by 10 (time_c w.ran g) ≤ wraps_by 10 w.atC + 1
+OneWrapAfter rs g = let w = after (taken rs) in wraps_by 10 (time_c w.ran g) ≤ wraps_by 10 w.at_c + 1
 
 abbrev pub NoneToDAfter : List Record → Gaps → Type 0
-NoneToDAfter rs g = let w = after (taken rs) in wraps_by 10 w.atC < wraps_by 10 (time_c w.ran g) → wraps_by 10 (w.ran + cycles_of g) ≡ wraps_by 10 (time_c w.ran g)
+NoneToDAfter rs g = let w = after (taken rs) in wraps_by 10 w.at_c < wraps_by 10 (time_c w.ran g) → wraps_by 10 (w.ran + cycles_of g) ≡ wraps_by 10 (time_c w.ran g)
 
 -- refused records, which leave the run as it is
 abbrev pub refusals : List Decoded
@@ -106,7 +106,7 @@ pub record Shown : Type 0 where
   pub three_fair : FairTrace step_of 10 three (at_setup step_of 2 10 4)
   pub three_short : ChainShort (after three).threads.last (after three).threads.times
   pub three_sum : ((after three).since ≡ 8) × ((after three).threads.last ≡ 9) × ((after three).machine.ledger.books.total.0 ≡ 8)
-  pub premises : (rs : List Record) (g : Gaps) → let w = after (taken rs) in FairSample 10 w.ran w.atC g ↔ (Quick g × OneWrapAfter rs g × NoneToDAfter rs g)
+  pub premises : (rs : List Record) (g : Gaps) → let w = after (taken rs) in FairSample 10 w.ran w.at_c g ↔ (Quick g × OneWrapAfter rs g × NoneToDAfter rs g)
   -- each premise broken alone reads 10 cycles short: a slow sample,
   pub slow : ReadsAt (K.Sample (gaps 0 10 0) ∷ []) 0 10
   pub slow_alone : (Quick (gaps 0 10 0) → ⊥) × OneWrapAfter [] (gaps 0 10 0) × NoneToDAfter [] (gaps 0 10 0)

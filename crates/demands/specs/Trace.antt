@@ -73,9 +73,9 @@ abbrev pub time_c : ℕ → Gaps → ℕ
 time_c ran g = ran + (g.p + g.q)
 
 unfoldable pub seen : Does → Machine → Watched → Watched
-seen nothing m w = record { machine = m; ran = w.ran; at_c = w.atC; ticks = w.ticks; threads = w.threads; before = w.before; since = w.since }
-seen (runs n) m w = record { machine = m; ran = w.ran + n; at_c = w.atC; ticks = w.ticks; threads = w.threads; before = w.before; since = w.since }
-seen (tell n) m w = record { machine = m; ran = w.ran; at_c = w.atC; ticks = w.ticks + n; threads = w.threads; before = w.before; since = w.since }
+seen nothing m w = record { machine = m; ran = w.ran; at_c = w.at_c; ticks = w.ticks; threads = w.threads; before = w.before; since = w.since }
+seen (runs n) m w = record { machine = m; ran = w.ran + n; at_c = w.at_c; ticks = w.ticks; threads = w.threads; before = w.before; since = w.since }
+seen (tell n) m w = record { machine = m; ran = w.ran; at_c = w.at_c; ticks = w.ticks + n; threads = w.threads; before = w.before; since = w.since }
 seen (samples g) m w = record { machine = m; ran = w.ran + cycles_of g; at_c = time_c w.ran g; ticks = w.ticks; threads = w.threads; before = w.before; since = w.since }
 seen (operates op g x) m w = record {
   machine = m;
@@ -122,4 +122,4 @@ module _ (step : Machine → Decoded → Stepped) where
   -- each sample is fair that was not refused before the touch
   unfoldable pub FairTrace : ℕ → List Decoded → Watched → Type 0
   FairTrace period [] w = Unit {0}
-  FairTrace period (d ∷ ds) w = Fair period w.ran w.atC (happened d (step w.machine d).outcome) × FairTrace period ds (watch d w)
+  FairTrace period (d ∷ ds) w = Fair period w.ran w.at_c (happened d (step w.machine d).outcome) × FairTrace period ds (watch d w)

@@ -1,7 +1,7 @@
 -- What is turned away whatever its kind, a setup's tests in one, and where sixteen bytes are left.
 use Prim.Native.Nat.{ℕ, zero, suc, ◌+◌, ◌≤◌, ◌<◌}
 use mathlib.Core.Path.{◌≡◌, refl}
-use mathlib.Core.Bool.{Bool, true, false, cond, not, ◌||◌, or_false}
+use mathlib.Core.Bool.{Bool, true, false, cond, not, ◌||◌, or-false}
 use mathlib.Core.List.{List}
 use lib.ListN.{length}
 use native.Mathlib.Omega.{arith}
@@ -44,7 +44,7 @@ module _ (f : Fields) where
   -- a setup's tests, all in one
   pub setup : f.kind ≡ 9 → f.spare ≡ 0 → cond (not (eqb f.thread 0) || not (eqb f.r 0) || bad_setup f.p f.q) (D.Refused Invalid) (D.Accepted (K.Setup (record { period = f.p; tick = f.q }))) ≡ decode_fields f
   unfolding decode_fields unused_set samples_first uses_thread record_of
-  setup kind clean = simp (kind, clean, or_false) (in_one (not (eqb f.thread 0) || not (eqb f.r 0)) (bad_setup f.p f.q) _ _)
+  setup kind clean = simp (kind, clean, or-false) (in_one (not (eqb f.thread 0) || not (eqb f.r 0)) (bad_setup f.p f.q) _ _)
 
 module _ (s : List ℕ) (at : ℕ) where
   pub short : length s < at + 16 → D.Refused Invalid ≡ decode_of s at

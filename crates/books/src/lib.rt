@@ -84,7 +84,7 @@ fn charged(usage: ThreadUsage, cycles: u32) -> Changed
 }
 
 // Closes the open stretch, whose thread has the record handed in.
-#[tactic(auto, unfolding(crate::specs::Entries::close_of))]
+#[tactic(auto, unfolding(crate::specs::Entries::close_of, crate::specs::Entries::with_change, usage::specs::Says::changed_why))]
 fn closed(books: Books, usage: ThreadUsage, now: u32) -> Entered
     ensures { result ≡ close_of books usage now }
 {
@@ -124,7 +124,7 @@ fn stopped(books: Books, usage: ThreadUsage, now: u32) -> Entered
 }
 
 // One stamp both closes and opens, so that no cycle is lost or counted twice between two threads.
-#[tactic(auto, unfolding(crate::specs::Entries::switch_of))]
+#[tactic(auto, unfolding(crate::specs::Entries::switch_of, crate::specs::Entries::onward))]
 fn switched(books: Books, usage: ThreadUsage, now: u32, thread: u32) -> Entered
     ensures { result ≡ switch_of books usage now thread }
 {
@@ -153,7 +153,7 @@ fn altered(usage: ThreadUsage, on: bool) -> Changed
 }
 
 // Enable or disable. The stretch of a running thread is closed under the old flag and opened under the new one.
-#[tactic(auto, unfolding(crate::specs::Entries::alter_of))]
+#[tactic(auto, unfolding(crate::specs::Entries::alter_of, crate::specs::Entries::with_change, usage::specs::Says::changed_why))]
 fn flagged(books: Books, usage: ThreadUsage, now: u32, thread: u32, on: bool) -> Entered
     ensures { result ≡ alter_of books usage now thread on }
 {
@@ -178,7 +178,7 @@ fn flagged(books: Books, usage: ThreadUsage, now: u32, thread: u32, on: bool) ->
     })
 }
 
-#[tactic(auto, unfolding(crate::specs::Entries::reopen_of))]
+#[tactic(auto, unfolding(crate::specs::Entries::reopen_of, crate::specs::Entries::onward, crate::specs::Entries::with_change, usage::specs::Says::changed_why))]
 fn reopened(books: Books, usage: ThreadUsage, now: u32, thread: u32, on: bool) -> Entered
     ensures { result ≡ reopen_of books usage now thread on }
 {

@@ -1,5 +1,6 @@
 // 01's ledger: the books and a table of thread records, an operation on them, and what they tell of a thread.
 #![tactic(auto)]
+
 ghost use Rattle.std.specs.Prelude.{◌≡◌};
 ghost use Rattle.ledger.specs.Operate.{refused_with, operate_of, report_of};
 ghost use Rattle.ledger.specs.Records.{fresh_ledger, report_value, answer_says};
@@ -63,6 +64,7 @@ fn refused(ledger: Ledger, why: Refusal) -> Ledgered
     }
 }
 
+#[tactic(auto, unfolding(crate::specs::Operate::operate_of))]
 pub fn operate(ledger: Ledger, reading: Cycles, operation: Operation) -> Ledgered
     ensures { result ≡ operate_of ledger reading operation }
 {
@@ -94,6 +96,7 @@ pub fn operate(ledger: Ledger, reading: Cycles, operation: Operation) -> Ledgere
     }
 }
 
+#[tactic(auto, unfolding(crate::specs::Operate::report_of))]
 pub fn report(ledger: Ledger, thread: u32) -> Reported
     ensures { result ≡ report_of ledger thread }
 {
@@ -108,6 +111,7 @@ pub fn report(ledger: Ledger, thread: u32) -> Reported
     Reported::Accepted(ThreadReport::of(ledger.threads[k]))
 }
 
+#[tactic(auto, unfolding(crate::specs::Records::answer_says))]
 impl Answer {
     pub fn number(self) -> i32
         ensures { result ≡ (answer_says self).number }
@@ -128,6 +132,7 @@ impl Answer {
     }
 }
 
+#[tactic(auto, unfolding(crate::specs::Says::reported_says))]
 impl Reported {
     pub fn number(self) -> i32
         ensures { result ≡ (reported_says self).number }
@@ -159,7 +164,7 @@ impl Reported {
 
 // A ledger in which nothing has run.
 pub fn fresh() -> Ledger
-    ensures* { do ⌜ result ≡ fresh_ledger (← (⟦ThreadUsage::SLOTS⟧).entry) ⌝ }
+    ensures { result ≡ fresh_ledger ThreadUsage.SLOTS }
 {
     let idle = ThreadUsage::new_idle();
     Ledger {

@@ -142,7 +142,7 @@ pub fn step(machine: Machine, decoded: Decoded) -> Stepped
 
 // A machine that is not set up.
 pub fn fresh() -> Machine
-    ensures* { do ⌜ result ≡ fresh_machine (← (⟦ThreadUsage::SLOTS⟧).entry) ⌝ }
+    ensures { result ≡ fresh_machine ThreadUsage.SLOTS }
 {
     let zero = Cycles(0);
     Machine {

@@ -32,6 +32,7 @@ pub enum Change {
 }
 
 // A run or a sample that the table lets through is turned away only where the state is malformed.
+#[tactic(auto, unfolding(crate::specs::Change::ran_change))]
 fn ran_change(answer: Ran) -> Change
     ensures { result ≡ ran_change answer }
 {
@@ -42,6 +43,7 @@ fn ran_change(answer: Ran) -> Change
 }
 
 // Each kind makes the table's tests itself: then the compiler leaves out those that do not concern it.
+#[tactic(auto, unfolding(crate::specs::Change::task_change))]
 fn run_change(core: Core, slots: usize, p: u32) -> Change
     ensures { result ≡ task_change core slots (T.Run p) }
 {
@@ -75,6 +77,7 @@ fn then_change(then: Then, taken: SampleTaken) -> Change
     }
 }
 
+#[tactic(auto, unfolding(crate::specs::Change::sampled_change))]
 fn sampled_change(then: Then, answer: Sampled) -> Change
     ensures { result ≡ sampled_change then answer }
 {
@@ -84,6 +87,7 @@ fn sampled_change(then: Then, answer: Sampled) -> Change
     }
 }
 
+#[tactic(auto, unfolding(crate::specs::Change::task_change))]
 fn sample_change(core: Core, slots: usize, gaps: Gaps, then: Then) -> Change
     ensures { result ≡ task_change core slots (T.Sample gaps then) }
 {
@@ -96,6 +100,7 @@ fn sample_change(core: Core, slots: usize, gaps: Gaps, then: Then) -> Change
     }
 }
 
+#[tactic(auto, unfolding(crate::specs::Change::announced_change))]
 fn announced_change(answer: Announced) -> Change
     ensures { result ≡ announced_change answer }
 {
@@ -114,6 +119,7 @@ fn announced_change(answer: Announced) -> Change
     )
 }
 
+#[tactic(auto, unfolding(crate::specs::Change::task_change))]
 fn announce_change(core: Core, slots: usize) -> Change
     ensures { result ≡ task_change core slots T.Announce }
 {
@@ -125,6 +131,7 @@ fn announce_change(core: Core, slots: usize) -> Change
     }
 }
 
+#[tactic(auto, unfolding(crate::specs::Change::task_change))]
 fn report_change(core: Core, slots: usize, thread: u32) -> Change
     ensures { result ≡ task_change core slots (T.Report thread) }
 {
@@ -135,6 +142,7 @@ fn report_change(core: Core, slots: usize, thread: u32) -> Change
     }
 }
 
+#[tactic(auto, unfolding(crate::specs::Change::set_up_change))]
 fn set_up_change(answer: SetUp) -> Change
     ensures { result ≡ set_up_change answer }
 {
@@ -144,6 +152,7 @@ fn set_up_change(answer: SetUp) -> Change
     }
 }
 
+#[tactic(auto, unfolding(crate::specs::Change::task_change))]
 fn setup_change(core: Core, slots: usize, setup: Setup) -> Change
     ensures { result ≡ task_change core slots (T.Setup setup) }
 {
@@ -154,6 +163,7 @@ fn setup_change(core: Core, slots: usize, setup: Setup) -> Change
     }
 }
 
+#[tactic(auto, unfolding(crate::specs::Change::task_change))]
 fn task_change(core: Core, slots: usize, task: Task) -> Change
     ensures { result ≡ task_change core slots task }
 {
@@ -167,6 +177,7 @@ fn task_change(core: Core, slots: usize, task: Task) -> Change
 }
 
 // What a decoded record changes. A malformed state turns every record away, and stays as it is.
+#[tactic(auto, unfolding(crate::specs::Table::malformed, crate::specs::Change::change_of))]
 pub fn change_of(core: Core, slots: usize, decoded: Decoded) -> Change
     ensures { result ≡ change_of (malformed core slots) core slots decoded }
 {
@@ -180,6 +191,7 @@ pub fn change_of(core: Core, slots: usize, decoded: Decoded) -> Change
 }
 
 // The record at a place of a trace. It is taken apart where it is decoded: handed on, it would be copied.
+#[tactic(auto, unfolding(trace::specs::Decode::decode_of, crate::specs::Change::record_change))]
 fn record_at(core: Core, slots: usize, trace: &[u8], at: usize) -> Change
     ensures { result ≡ record_change core slots (decode_of trace.now at) }
 {
@@ -191,6 +203,7 @@ fn record_at(core: Core, slots: usize, trace: &[u8], at: usize) -> Change
 
 // What the record at a place of a trace changes. Whether the state is malformed is the caller's to ask: once for a
 // trace, and not at every record, since no record makes it so.
+#[tactic(auto, unfolding(trace::specs::Decode::decode_of, crate::specs::Change::change_of))]
 pub fn change_at(broken: bool, core: Core, slots: usize, trace: &[u8], at: usize) -> Change
     ensures { result ≡ change_of broken core slots (decode_of trace.now at) }
 {

@@ -1,5 +1,6 @@
 // 01's table of refusals: the tests that are made before the counter is touched, in its order, and what a step answers.
 #![tactic(auto)]
+
 ghost use Rattle.std.specs.Prelude.{◌≡◌};
 ghost use Rattle.table.specs.Table.{refusal_of, malformed};
 ghost use Rattle.table.specs.Change.{tested_of};
@@ -75,6 +76,7 @@ impl Reason {
     }
 }
 
+#[tactic(auto, unfolding(crate::specs::Says::outcome_says))]
 impl Outcome {
     pub fn number(self) -> i32
         ensures { result ≡ (outcome_says self).number }
@@ -104,6 +106,7 @@ impl Outcome {
     }
 }
 
+#[tactic(auto, unfolding(crate::specs::Table::malformed))]
 pub fn malformed(core: Core, slots: usize) -> bool
     ensures { result ≡ malformed core slots }
 {
@@ -115,6 +118,7 @@ pub fn malformed(core: Core, slots: usize) -> bool
 }
 
 // 01's table, row by row: the first test that holds turns the record away, and nothing has been touched.
+#[tactic(auto, unfolding(crate::specs::Change::tested_of))]
 fn tested(core: Core, asked: Asked) -> Verdict
     ensures { result ≡ tested_of core asked }
 {

@@ -40,6 +40,7 @@ pub struct Asked {
     pub cycles: u64,
 }
 
+#[tactic(auto, unfolding(crate::specs::Task::task_of))]
 pub fn task_of(decoded: Record) -> Task
     ensures { result ≡ task_of decoded }
 {
@@ -67,6 +68,7 @@ pub fn task_of(decoded: Record) -> Task
 }
 
 // Where a row looks at neither the books nor the table, the promise names books in which none runs and a table of no slots.
+#[tactic(auto, unfolding(crate::specs::Task::asked_by))]
 pub fn asks_nothing() -> Asked
     ensures { result ≡ asked_by nothing_booked 0 T.Announce }
 {
@@ -80,6 +82,7 @@ pub fn asks_nothing() -> Asked
     }
 }
 
+#[tactic(auto, unfolding(crate::specs::Task::asked_by))]
 pub fn asks_cycles(cycles: u64) -> Asked
     ensures { result ≡ asked_by nothing_booked 0 (T.Run cycles) }
 {
@@ -88,6 +91,7 @@ pub fn asks_cycles(cycles: u64) -> Asked
     asked
 }
 
+#[tactic(auto, unfolding(crate::specs::Task::asked_by))]
 fn asks_sample(gaps: Gaps) -> Asked
     ensures { result ≡ asked_by nothing_booked 0 (T.Sample gaps W.Tell) }
 {
@@ -96,6 +100,7 @@ fn asks_sample(gaps: Gaps) -> Asked
     asked
 }
 
+#[tactic(auto, unfolding(crate::specs::Task::asked_by))]
 fn asks_operation(books: Books, slots: usize, operation: Operation, gaps: Gaps) -> Asked
     ensures { result ≡ asked_by books slots (T.Sample gaps (W.Operate operation)) }
 {
@@ -107,6 +112,7 @@ fn asks_operation(books: Books, slots: usize, operation: Operation, gaps: Gaps) 
     asked
 }
 
+#[tactic(auto, unfolding(crate::specs::Task::asked_by))]
 pub fn asks_then(books: Books, slots: usize, gaps: Gaps, then: Then) -> Asked
     ensures { result ≡ asked_by books slots (T.Sample gaps then) }
 {
@@ -116,6 +122,7 @@ pub fn asks_then(books: Books, slots: usize, gaps: Gaps, then: Then) -> Asked
     }
 }
 
+#[tactic(auto, unfolding(crate::specs::Task::asked_by))]
 pub fn asks_report(slots: usize, thread: u32) -> Asked
     ensures { result ≡ asked_by nothing_booked slots (T.Report thread) }
 {
@@ -126,6 +133,7 @@ pub fn asks_report(slots: usize, thread: u32) -> Asked
 }
 
 // No bytes decode to a bad setup, but one can be handed in.
+#[tactic(auto, unfolding(crate::specs::Task::asked_by))]
 pub fn asks_setup(setup: Setup) -> Asked
     ensures { result ≡ asked_by nothing_booked 0 (T.Setup setup) }
 {

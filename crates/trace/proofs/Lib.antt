@@ -1,4 +1,3 @@
 pub mod Outcomes
 pub mod Handing
-pub mod Holding
 pub mod Bytes

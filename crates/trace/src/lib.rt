@@ -1,5 +1,6 @@
 // Sixteen bytes of a trace: their fields, and the one record that they stand for.
 #![tactic(auto)]
+
 ghost use Rattle.std.specs.Prelude.{◌+◌, ◌≤◌, ◌≡◌, cond, length};
 ghost use Rattle.error.specs.declared.Refusal.TheVariants.{Invalid};
 ghost use Rattle.trace.specs.Decode.{word_of, word_at, fields_at, decode_fields, decode_of, decoded_says};
@@ -47,6 +48,7 @@ pub enum Decoded {
 }
 
 impl Decoded {
+    #[tactic(auto, unfolding(crate::specs::Decode::decoded_says))]
     pub fn number(self) -> i32
         ensures { result ≡ (decoded_says self).number }
     {
@@ -63,6 +65,7 @@ fn word(a: u8, b: u8, c: u8, d: u8) -> u32
     a as u32 + (b as u32) * 256 + (c as u32) * 65536 + (d as u32) * 16777216
 }
 
+#[tactic(auto, unfolding(crate::specs::Decode::word_at))]
 fn word_at(trace: &[u8], at: usize) -> u32
     requires { at + 4 ≤ length trace.now }
     ensures { result ≡ word_at trace.now at }
@@ -70,6 +73,7 @@ fn word_at(trace: &[u8], at: usize) -> u32
     word(trace[at], trace[at + 1], trace[at + 2], trace[at + 3])
 }
 
+#[tactic(auto, unfolding(crate::specs::Decode::fields_at))]
 fn fields_at(trace: &[u8], at: usize) -> Fields
     requires { at + 16 ≤ length trace.now }
     ensures { result ≡ fields_at trace.now at }
@@ -101,6 +105,7 @@ fn accepted_unless(bad: bool, made: Record) -> Decoded
 }
 
 // By kind: what a kind does not use must be 0, and of what is used only a setup's period and tick are tested.
+#[tactic(auto, unfolding(crate::specs::Decode::decode_fields, crate::specs::Decode::unused_set, crate::specs::Decode::samples_first, crate::specs::Decode::uses_thread, crate::specs::Decode::record_of))]
 fn decode_fields(fields: Fields) -> Decoded
     ensures { result ≡ decode_fields fields }
 {
@@ -141,6 +146,7 @@ fn decode_fields(fields: Fields) -> Decoded
 }
 
 // The record at a place; where no sixteen bytes are left there is none.
+#[tactic(auto, unfolding(crate::specs::Decode::decode_of))]
 pub fn decode(trace: &[u8], at: usize) -> Decoded
     ensures { result ≡ decode_of trace.now at }
 {

@@ -18,6 +18,7 @@ pub enum Item {
 }
 
 // How many whole records there are from a place on; past the trace there is none.
+#[tactic(auto, unfolding(crate::specs::Handing::records_left))]
 pub fn records_from(trace: &[u8], at: usize) -> usize
     ensures { result ≡ records_left trace.now at }
 {
@@ -29,6 +30,7 @@ pub fn records_from(trace: &[u8], at: usize) -> usize
 }
 
 // How many bytes of a short record are left after them.
+#[tactic(auto, unfolding(crate::specs::Handing::bytes_left))]
 pub fn bytes_from(trace: &[u8], at: usize) -> usize
     ensures { result ≡ bytes_left trace.now at }
 {
@@ -39,6 +41,7 @@ pub fn bytes_from(trace: &[u8], at: usize) -> usize
     (size - at) % 16
 }
 
+#[tactic(auto, unfolding(crate::specs::Handing::item_at))]
 pub fn item_at(trace: &[u8], at: usize) -> Item
     ensures { result ≡ item_at trace.now at }
 {
@@ -49,6 +52,7 @@ pub fn item_at(trace: &[u8], at: usize) -> Item
 }
 
 // The place after the record at a place; at the end it stays.
+#[tactic(auto, unfolding(crate::specs::Handing::place_after, crate::specs::Handing::records_left))]
 pub fn place_after(trace: &[u8], at: usize) -> usize
     ensures { result ≡ place_after trace.now at }
 {
@@ -66,12 +70,14 @@ impl<'a> TraceReader<'a> {
     }
 
     // The item at the reader's place; `moved` is the reader after it.
+    #[tactic(auto, unfolding(crate::specs::Handing::item_at))]
     pub fn next(self) -> Item
         ensures { result ≡ item_at self.entry.trace.now self.entry.at }
     {
         item_at(self.trace, self.at)
     }
 
+    #[tactic(auto, unfolding(crate::specs::Handing::place_after))]
     pub fn moved(self) -> TraceReader<'a>
         ensures { (result.trace ≡ self.entry.trace) × (result.at ≡ place_after self.entry.trace.now self.entry.at) }
     {
@@ -82,12 +88,14 @@ impl<'a> TraceReader<'a> {
         }
     }
 
+    #[tactic(auto, unfolding(crate::specs::Handing::records_left))]
     pub fn records_left(self) -> usize
         ensures { result ≡ records_left self.entry.trace.now self.entry.at }
     {
         records_from(self.trace, self.at)
     }
 
+    #[tactic(auto, unfolding(crate::specs::Handing::bytes_left))]
     pub fn bytes_left(self) -> usize
         ensures { result ≡ bytes_left self.entry.trace.now self.entry.at }
     {
@@ -96,6 +104,7 @@ impl<'a> TraceReader<'a> {
 }
 
 // A trace's first item, by a reader of its own.
+#[tactic(auto, unfolding(crate::specs::Handing::item_at))]
 pub fn first_item(trace: &[u8]) -> Item
     ensures { result ≡ item_at trace.now 0 }
 {

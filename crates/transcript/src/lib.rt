@@ -324,7 +324,7 @@ fn if_ready(ready: bool, number: u64) -> u64
 
 fn put_whole(trace: &[u8], out: &mut [u8]) -> usize
     requires { Fits trace.now out.old }
-    ensures* text { do ⌜ Put out.old out.new 0 result (text_from (fresh_machine (← (⟦ThreadUsage::SLOTS⟧).entry)) trace.now) ⌝ }
+    ensures text { Put out.old out.new 0 result (text_from (fresh_machine ThreadUsage.SLOTS) trace.now) }
     ensures room { result ≤ length out.new }
 {
     let size = trace.len();
@@ -341,8 +341,8 @@ fn put_whole(trace: &[u8], out: &mut [u8]) -> usize
 // The whole text of a trace, from the buffer's first byte on. Room is asked for the longest text that so many bytes can
 // have, so that nothing is written where it may not suffice.
 pub fn replay(trace: &[u8], out: &mut [u8]) -> Written
-    ensures* answer { do ⌜ result ≡ replay_of (← (⟦ThreadUsage::SLOTS⟧).entry) trace.now out.old ⌝ }
-    ensures* buffer { do ⌜ out.new ≡ replayed_of (← (⟦ThreadUsage::SLOTS⟧).entry) trace.now out.old ⌝ }
+    ensures answer { result ≡ replay_of ThreadUsage.SLOTS trace.now out.old }
+    ensures buffer { out.new ≡ replayed_of ThreadUsage.SLOTS trace.now out.old }
     ensures room { (written_says result).value ≤ length out.new }
 {
     let size = trace.len();

@@ -43,7 +43,7 @@ fn ran_change(answer: Ran) -> Change
 }
 
 // Each kind makes the table's tests itself: then the compiler leaves out those that do not concern it.
-#[tactic(auto, unfolding(crate::specs::Change::task_change))]
+#[tactic(auto, unfolding(crate::specs::Change::task_change, crate::specs::Change::tested_of, crate::specs::Change::effect_change, crate::specs::Task::asked_by))]
 fn run_change(core: Core, slots: usize, p: u32) -> Change
     ensures { result ≡ task_change core slots (T.Run p) }
 {
@@ -87,7 +87,7 @@ fn sampled_change(then: Then, answer: Sampled) -> Change
     }
 }
 
-#[tactic(auto, unfolding(crate::specs::Change::task_change))]
+#[tactic(auto, unfolding(crate::specs::Change::task_change, crate::specs::Change::tested_of, crate::specs::Change::effect_change, crate::specs::Task::asked_by))]
 fn sample_change(core: Core, slots: usize, gaps: Gaps, then: Then) -> Change
     ensures { result ≡ task_change core slots (T.Sample gaps then) }
 {
@@ -100,7 +100,7 @@ fn sample_change(core: Core, slots: usize, gaps: Gaps, then: Then) -> Change
     }
 }
 
-#[tactic(auto, unfolding(crate::specs::Change::announced_change))]
+#[tactic(auto, unfolding(crate::specs::Change::announced_change, clock::specs::Says::announced_why))]
 fn announced_change(answer: Announced) -> Change
     ensures { result ≡ announced_change answer }
 {
@@ -119,7 +119,7 @@ fn announced_change(answer: Announced) -> Change
     )
 }
 
-#[tactic(auto, unfolding(crate::specs::Change::task_change))]
+#[tactic(auto, unfolding(crate::specs::Change::task_change, crate::specs::Change::tested_of, crate::specs::Change::effect_change, crate::specs::Task::asked_by))]
 fn announce_change(core: Core, slots: usize) -> Change
     ensures { result ≡ task_change core slots T.Announce }
 {
@@ -131,7 +131,7 @@ fn announce_change(core: Core, slots: usize) -> Change
     }
 }
 
-#[tactic(auto, unfolding(crate::specs::Change::task_change))]
+#[tactic(auto, unfolding(crate::specs::Change::task_change, crate::specs::Change::tested_of, crate::specs::Change::effect_change, crate::specs::Task::asked_by))]
 fn report_change(core: Core, slots: usize, thread: u32) -> Change
     ensures { result ≡ task_change core slots (T.Report thread) }
 {
@@ -152,7 +152,7 @@ fn set_up_change(answer: SetUp) -> Change
     }
 }
 
-#[tactic(auto, unfolding(crate::specs::Change::task_change))]
+#[tactic(auto, unfolding(crate::specs::Change::task_change, crate::specs::Change::tested_of, crate::specs::Change::effect_change, crate::specs::Task::asked_by))]
 fn setup_change(core: Core, slots: usize, setup: Setup) -> Change
     ensures { result ≡ task_change core slots (T.Setup setup) }
 {
@@ -177,7 +177,7 @@ fn task_change(core: Core, slots: usize, task: Task) -> Change
 }
 
 // What a decoded record changes. A malformed state turns every record away, and stays as it is.
-#[tactic(auto, unfolding(crate::specs::Table::malformed, crate::specs::Change::change_of))]
+#[tactic(auto, unfolding(crate::specs::Change::change_of, crate::specs::Change::record_change))]
 pub fn change_of(core: Core, slots: usize, decoded: Decoded) -> Change
     ensures { result ≡ change_of (malformed core slots) core slots decoded }
 {
@@ -203,7 +203,7 @@ fn record_at(core: Core, slots: usize, trace: &[u8], at: usize) -> Change
 
 // What the record at a place of a trace changes. Whether the state is malformed is the caller's to ask: once for a
 // trace, and not at every record, since no record makes it so.
-#[tactic(auto, unfolding(trace::specs::Decode::decode_of, crate::specs::Change::change_of))]
+#[tactic(auto, unfolding(crate::specs::Change::change_of))]
 pub fn change_at(broken: bool, core: Core, slots: usize, trace: &[u8], at: usize) -> Change
     ensures { result ≡ change_of broken core slots (decode_of trace.now at) }
 {

@@ -57,6 +57,7 @@ enum Verdict {
     Refused(Reason),
 }
 
+#[tactic(auto, unfolding(crate::specs::Table::columns))]
 impl Reason {
     pub fn refusal(self) -> Refusal
         ensures { result ≡ refusal_of self }

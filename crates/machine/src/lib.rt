@@ -1,5 +1,6 @@
 // 01's machine: one record's step over counter, clock and ledger.
 #![tactic(auto)]
+
 ghost use Rattle.std.specs.Prelude.{◌≡◌};
 ghost use Rattle.machine.specs.Step.{core_of, with_timer, report_tells, step_of, fresh_machine};
 ghost use Rattle.table.specs.declared.Outcome.TheVariants as O;
@@ -89,6 +90,7 @@ pub fn report_values(report: ThreadReport) -> Values
 
 // One record's step, the machine by value: what the record changes, worked out before anything is touched, and then the
 // change made.
+#[tactic(auto, unfolding(crate::specs::Step::step_of))]
 pub fn step(machine: Machine, decoded: Decoded) -> Stepped
     ensures { result ≡ step_of machine decoded }
 {

@@ -1,13 +1,8 @@
 -- What the tests of a label's functions decide, and that the code's stores make the label's text.
-use Prim.Native.Nat.{ℕ, ◌+◌, ◌≤◌, ◌<◌}
-use mathlib.Core.Path.{◌≡◌, refl, sym, ap, ◌∙◌}
-use mathlib.Core.Bool.{Bool, true, false, ◌||◌}
-use mathlib.Core.List.{List, [], ◌∷◌, ◌++◌, append_assoc}
-use native.Mathlib.Omega.{arith}
-use lib.ListN.{length, take, set, replicate, length-append}
-use lib.Seq.{sets, length-sets, length-take-le}
-use lib.Dec.{ltb, leb, eqb}
-use borrow.Author.Tests.{le-ltb, ltb-false, leb-false, eqb-false}
+use Rattle.std.proofs.Common.{ℕ, ◌+◌, ◌≤◌, ◌<◌, ◌≡◌, refl, sym, ap, ◌∙◌, Bool, true, false, ◌||◌, List, [], ◌∷◌, ◌++◌, append_assoc, arith, length, take, set, replicate, length-append, length-take-le, ltb, leb, eqb, le-ltb, ltb-false, leb-false}
+use Rattle.std.proofs.lemmas.List.Edits.{sets}
+use lib.Seq.{length-sets}
+use borrow.Author.Tests.{eqb-false}
 use Rattle.error.specs.declared.Refusal.TheVariants.{NoSpace}
 use Rattle.lines.specs.declared.Written.TheVariants as W
 use Rattle.lines.specs.declared.label.Label.{Label}

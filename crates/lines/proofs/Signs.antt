@@ -1,19 +1,8 @@
 -- A code of 32 bits: wider, turned round where it is below 0, and its text by the test.
-use Prim.Native.Nat.{ℕ, suc, ◌+◌}
-use mathlib.Core.Path.{◌≡◌, refl, ap, ◌∙◌}
-use mathlib.Core.Bool.{true, false}
-use mathlib.Core.List.{List, [], ◌∷◌, ◌++◌}
-use native.Mathlib.Omega.{arith}
-use native.Mathlib.Numerals.{add-one}
-use lib.Dec.{T}
-use lib.IntN.{◌-ℤ◌, ℤ, pos, negsuc, nat_abs}
+use Rattle.std.proofs.Common.{ℕ, suc, ◌+◌, ◌≡◌, refl, ap, ◌∙◌, true, false, List, [], ◌∷◌, ◌++◌, arith, add-one, T, ◌-ℤ◌, ℤ, pos, negsuc, nat_abs, length, set, length-set, ltb-true, w32, w64, SFits, Fits, to_z, of_z, to_z-of_z}
 use lib.Signed.{lt_z, non_neg}
-use lib.ListN.{length, set, length-set}
-use lib.Seq.{sets}
-use borrow.Author.Tests.{ltb-true}
-use mir.Syntax.{w32, w64}
-use mir.Val.{SFits, Fits, to_z, of_z}
-use mir.Facts.{to_z-of_z, sfits_widen}
+use Rattle.std.proofs.lemmas.List.Edits.{sets}
+use mir.Facts.{sfits_widen}
 use Rattle.error.proofs.Tests.{clash}
 use Rattle.lines.specs.Text.{decimal, signed}
 use Rattle.lines.specs.Writing.{Room, Put}

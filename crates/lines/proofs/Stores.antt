@@ -1,12 +1,7 @@
 -- Runs of stores: one after the other, and one that comes out of turn.
-use Prim.Native.Nat.{ℕ, suc, ◌+◌, ◌≤◌, ◌<◌}
-use mathlib.Core.Path.{◌≡◌, refl, sym, ap, ◌∙◌}
-use mathlib.Core.List.{List, [], ◌∷◌, ◌++◌, append_assoc}
-use native.Mathlib.Omega.{arith}
-use native.Mathlib.Numerals.{add-one}
-use native.Mathlib.Nat.{add-suc, suc-add, add-zero}
-use lib.ListN.{length, get_or, set, drop, length-append, length-set, drop_of_length-le}
-use lib.Seq.{sets, set_comm, drop-cons}
+use Rattle.std.proofs.Common.{ℕ, suc, ◌+◌, ◌≤◌, ◌<◌, ◌≡◌, refl, sym, ap, ◌∙◌, List, [], ◌∷◌, ◌++◌, append_assoc, arith, add-one, add-suc, suc-add, add-zero, length, get_or, set, drop, length-append, length-set, drop_of_length-le, drop-cons}
+use Rattle.std.proofs.lemmas.List.Edits.{sets}
+use lib.Seq.{set_comm}
 use Rattle.lines.specs.Writing.{Put}
 
 -- a run in two parts

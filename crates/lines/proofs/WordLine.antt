@@ -1,13 +1,6 @@
 -- The lines that begin with a word, from their parts.
-use Prim.Native.Nat.{ℕ, ◌+◌, ◌≤◌}
-use mathlib.Core.Path.{◌≡◌, refl}
-use mathlib.Core.Bool.{Bool, false}
-use mathlib.Core.List.{List, [], ◌∷◌, ◌++◌, append_assoc}
-use native.Mathlib.Omega.{arith}
-use lib.ListN.{length}
-use lib.Seq.{sets}
-use lib.Dec.{ltb}
-use lib.IntN.{ℤ}
+use Rattle.std.proofs.Common.{ℕ, ◌+◌, ◌≤◌, ◌≡◌, refl, Bool, false, List, [], ◌∷◌, ◌++◌, append_assoc, arith, length, ltb, ℤ}
+use Rattle.std.proofs.lemmas.List.Edits.{sets}
 use Rattle.lines.specs.declared.Written.TheVariants as W
 use Rattle.lines.specs.Text.{decimal, signed, end_text}
 use Rattle.lines.specs.Buffer.{written_of, put_of}

@@ -29,6 +29,7 @@ pub enum Written {
     Refused(Refusal),
 }
 
+#[tactic(auto, unfolding(crate::specs::Says::written_says))]
 impl Written {
     pub fn number(self) -> i32
         ensures { result ≡ (written_says self).number }

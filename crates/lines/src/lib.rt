@@ -154,6 +154,7 @@ fn put_reason(out: &mut [u8], at: usize, letters: &[u8], code: i32) -> Written
 }
 
 // A trace whose last record is not whole.
+#[tactic(auto, unfolding(crate::specs::Text::tail_text))]
 pub fn put_tail(out: &mut [u8], at: usize) -> Written
     ensures answer { result ≡ written_of out.old at tail_text }
     ensures buffer { out.new ≡ put_of out.old at tail_text }
@@ -162,6 +163,7 @@ pub fn put_tail(out: &mut [u8], at: usize) -> Written
 }
 
 // A trace that is larger than the room for it.
+#[tactic(auto, unfolding(crate::specs::Text::input_text))]
 pub fn put_input(out: &mut [u8], at: usize) -> Written
     ensures answer { result ≡ written_of out.old at input_text }
     ensures buffer { out.new ≡ put_of out.old at input_text }

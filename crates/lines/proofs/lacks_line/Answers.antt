@@ -1,9 +1,8 @@
-use Rattle.std.proofs.Common.{rules, ◌≡◌, ◌+◌, ◌≤◌, [], ◌∷◌, ◌++◌, length, ltb, pos, ℕ, ◌-◌, ◌*◌, ◌<◌, ◌/◌, ◌%◌, Bool, true, false, nat_eq, List, slice_index_or, slice_set, bit_and, bit_or, Fits, w8, w32, w64, Bor, MutBor, ℤ, ◌+ℤ◌, ◌-ℤ◌, ◌*ℤ◌, ◌≤ℤ◌, ◌<ℤ◌, FitsSigned, to_z, of_z}
-use Rattle.lines.specs.Says.{written_says}
-use Rattle.lines.specs.Text.{signed, line_text, end_text, tail_text, input_text, values_text}
-use Rattle.lines.specs.Buffer.{put_of, written_of, rest_room, roomy_put, roomy_written}
+-- `lacks_line` asks for the longest line's room, and counts where there is less.
+use Rattle.lines.proofs.StepLine.{any_line}
 use Rattle.lines.proofs.lacks_line.Goals as goal
 
--- src/lib.rt:64:1
 pub returns : goal.returns
-returns c = ?
+returns c =
+    let a = c.args in
+    any_line a.room a.at a.number a.code a.x a.y c.ranges.number.fits c.ranges.code.sfits c.ranges.x.fits c.ranges.y.fits c.lacks_room.ensures c.if-lacks_room.false

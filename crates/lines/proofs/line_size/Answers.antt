@@ -1,25 +1,31 @@
-use Rattle.std.proofs.Common.{rules, ◌≡◌, ◌+◌, ◌≤◌, [], ◌∷◌, ◌++◌, length, ltb, pos, ℕ, ◌-◌, ◌*◌, ◌<◌, ◌/◌, ◌%◌, Bool, true, false, nat_eq, List, slice_index_or, slice_set, bit_and, bit_or, Fits, w8, w32, w64, Bor, MutBor, ℤ, ◌+ℤ◌, ◌-ℤ◌, ◌*ℤ◌, ◌≤ℤ◌, ◌<ℤ◌, FitsSigned, to_z, of_z}
-use Rattle.lines.specs.Says.{written_says}
-use Rattle.lines.specs.Text.{signed, line_text, end_text, tail_text, input_text, values_text}
-use Rattle.lines.specs.Buffer.{put_of, written_of, rest_room, roomy_put, roomy_written}
+-- `line_size` adds up the sizes of a line's parts.
+use Rattle.std.proofs.Common.{◌+◌, ◌≤◌, ◌≡◌, arith, length}
+use Rattle.lines.specs.Text.{line_text}
+use Rattle.lines.specs.Buffer.{line_room}
+use Rattle.lines.proofs.Sizes.{line_room_lem}
+use Rattle.lines.proofs.Signs.{same}
+use Rattle.lines.proofs.StepLine.{line_total}
 use Rattle.lines.proofs.line_size.Goals as goal
 
--- src/lib.rt:60:5
-pub overflow_add-result : goal.overflow_add-result
-overflow_add-result c = ?
-
--- src/lib.rt:60:5
-pub overflow_add-result-2 : goal.overflow_add-result-2
-overflow_add-result-2 c = ?
-
--- src/lib.rt:60:5
-pub overflow_add-result-3 : goal.overflow_add-result-3
-overflow_add-result-3 c = ?
-
--- src/lib.rt:60:5
-pub overflow_add-result-4 : goal.overflow_add-result-4
-overflow_add-result-4 c = ?
-
--- src/lib.rt:53:1
 pub returns : goal.returns
-returns c = ?
+returns c =
+    let a = c.args in
+    line_total a.number _ a.code a.x a.y (same c.ranges.code) c.places-number_size.ensures c.code_places-code_size.ensures c.places-x_size.ensures c.places-y_size.ensures
+
+-- and no line is longer than the longest
+most : (c : goal.After-places-y_size) → c.places-number_size.result + c.code_places-code_size.result + c.places-x_size.result + c.places-y_size.result + 4 ≤ line_room
+most c =
+    let a = c.args in
+    omega (arith, returns c, line_room_lem a.number a.code a.x a.y c.ranges.number.fits c.ranges.code.sfits c.ranges.x.fits c.ranges.y.fits)
+
+pub overflow_add-result : goal.overflow_add-result
+overflow_add-result c = omega (arith, most c)
+
+pub overflow_add-result-2 : goal.overflow_add-result-2
+overflow_add-result-2 c = omega (arith, most c)
+
+pub overflow_add-result-3 : goal.overflow_add-result-3
+overflow_add-result-3 c = omega (arith, most c)
+
+pub overflow_add-result-4 : goal.overflow_add-result-4
+overflow_add-result-4 c = omega (arith, most c)

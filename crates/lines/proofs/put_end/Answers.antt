@@ -1,29 +1,35 @@
-use Rattle.std.proofs.Common.{rules, ◌≡◌, ◌+◌, ◌≤◌, [], ◌∷◌, ◌++◌, length, ltb, pos, ℕ, ◌-◌, ◌*◌, ◌<◌, ◌/◌, ◌%◌, Bool, true, false, nat_eq, List, slice_index_or, slice_set, bit_and, bit_or, Fits, w8, w32, w64, Bor, MutBor}
-use Rattle.lines.specs.Says.{written_says}
-use Rattle.lines.specs.Text.{signed, line_text, end_text, tail_text, input_text, values_text}
-use Rattle.lines.specs.Buffer.{put_of, written_of, rest_room, roomy_put, roomy_written}
+-- `put_end` counts, asks for the room once, and puts the word and two numbers.
+use Rattle.std.proofs.Common.{arith}
+use Rattle.lines.specs.Text.{end_text}
+use Rattle.lines.proofs.Decimal.{size_64}
+use Rattle.lines.proofs.WordLine.{End, end_counted, end_total, for_cycles, for_reading, whole_end}
+use Rattle.lines.proofs.Whole.{no_room}
 use Rattle.lines.proofs.put_end.Goals as goal
 
--- src/lib.rt:128:16
 pub overflow_add-size : goal.overflow_add-size
-overflow_add-size c = ?
+overflow_add-size c = omega (arith, size_64 c.args.cycles c.ranges.cycles.fits, size_64 c.args.reading c.ranges.reading.fits, c.places-cycles_size.ensures, c.places-reading_size.ensures)
 
--- src/lib.rt:128:16
 pub overflow_add-size-2 : goal.overflow_add-size-2
-overflow_add-size-2 c = ?
+overflow_add-size-2 c = omega (arith, size_64 c.args.cycles c.ranges.cycles.fits, size_64 c.args.reading c.ranges.reading.fits, c.places-cycles_size.ensures, c.places-reading_size.ensures)
 
--- src/lib.rt:130:9
 pub returns-then-lacks_room-clause-answer : goal.returns-then-lacks_room-clause-answer
-returns-then-lacks_room-clause-answer c = ?
+returns-then-lacks_room-clause-answer c =
+    let a = c.args in
+    (no_room a.out.now a.at (end_text a.cycles a.reading) (end_total a.cycles a.reading c.places-cycles_size.ensures c.places-reading_size.ensures) c.lacks_room.ensures c.if-lacks_room.true).0
 
--- src/lib.rt:130:9
 pub returns-then-lacks_room-clause-buffer : goal.returns-then-lacks_room-clause-buffer
-returns-then-lacks_room-clause-buffer c = ?
+returns-then-lacks_room-clause-buffer c =
+    let a = c.args in
+    (no_room a.out.now a.at (end_text a.cycles a.reading) (end_total a.cycles a.reading c.places-cycles_size.ensures c.places-reading_size.ensures) c.lacks_room.ensures c.if-lacks_room.true).1
 
--- src/lib.rt:122:1
+-- where the room was found
+counted : (c : goal.After-slice_known-4-1) → End c.args.out.now c.args.at c.args.cycles c.args.reading
+counted c =
+    let a = c.args in
+    end_counted a.out.now a.at a.cycles a.reading c.places-cycles_size.ensures c.places-reading_size.ensures c.lacks_room.ensures c.if-lacks_room.false
+
 pub returns-clause-answer : goal.returns-clause-answer
-returns-clause-answer c = ?
+returns-clause-answer c = (whole_end (counted c) c.put_letters.ensures c.put_number-third.ensures c.put_number-end.ensures).0
 
--- src/lib.rt:122:1
 pub returns-clause-buffer : goal.returns-clause-buffer
-returns-clause-buffer c = ?
+returns-clause-buffer c = (whole_end (counted c) c.put_letters.ensures c.put_number-third.ensures c.put_number-end.ensures).1

@@ -1,31 +1,43 @@
-use Rattle.std.proofs.Common.{rules, ◌≡◌, ℕ, ◌+◌, ◌-◌, ◌*◌, ◌<◌, ◌≤◌, length, ◌/◌, ◌%◌, Bool, true, false, nat_eq, nat_lt, List, [], ◌∷◌, ◌++◌, slice_index_or, slice_set, bit_and, bit_or, Fits, w8, w32, w64, Bor, MutBor}
-use Rattle.lines.specs.Naming.{of_parts, label_of, next_label, joined, label_put, label_written}
+-- `put_label` puts the text it has, with the pair and a space over its end, or the whole number.
+use Rattle.std.proofs.Common.{arith, rules, length}
+use Rattle.lines.specs.Naming.{unusable}
+use Rattle.lines.proofs.Decimal.{size_64}
+use Rattle.lines.proofs.Labels.{no_room, whole_number, Kept, kept, pair_room, space_room, accepted}
+use Rattle.lines.proofs.Parts.{there}
 use Rattle.lines.proofs.label.put_label.Goals as goal
 
--- src/label.rt:90:9
 pub returns-then-lacks_room-clause-answer : goal.returns-then-lacks_room-clause-answer
-returns-then-lacks_room-clause-answer c = ?
+returns-then-lacks_room-clause-answer c = (no_room c.args.out.now c.args.at c.args.label c.lacks_room.ensures c.if-lacks_room.true).0
 
--- src/label.rt:90:9
 pub returns-then-lacks_room-clause-buffer : goal.returns-then-lacks_room-clause-buffer
-returns-then-lacks_room-clause-buffer c = ?
+returns-then-lacks_room-clause-buffer c = (no_room c.args.out.now c.args.at c.args.label c.lacks_room.ensures c.if-lacks_room.true).1
 
--- src/label.rt:97:34
 pub put_long-requires : goal.put_long-requires
-put_long-requires c = ?
+put_long-requires c =
+    let room = there c.args.at 75 (length c.args.out.now) c.lacks_room.ensures c.if-lacks_room.false in
+    record { room = omega (arith, room, size_64 c.whole-number.result c.whole-number.type_inv) }
 
--- src/label.rt:97:9
 pub returns-then-size-pair-clause-answer : goal.returns-then-size-pair-clause-answer
-returns-then-size-pair-clause-answer c = ?
+unfolding unusable
+returns-then-size-pair-clause-answer c =
+    let room = there c.args.at 75 (length c.args.out.now) c.lacks_room.ensures c.if-lacks_room.false in
+    (whole_number c.args.out.now c.args.at c.args.label room c.if-size-pair.true (rw c.whole-number.ensures at c.put_long.ensures)).0
 
--- src/label.rt:97:9
 pub returns-then-size-pair-clause-buffer : goal.returns-then-size-pair-clause-buffer
-returns-then-size-pair-clause-buffer c = ?
+unfolding unusable
+returns-then-size-pair-clause-buffer c =
+    let room = there c.args.at 75 (length c.args.out.now) c.lacks_room.ensures c.if-lacks_room.false in
+    (whole_number c.args.out.now c.args.at c.args.label room c.if-size-pair.true (rw c.whole-number.ensures at c.put_long.ensures)).1
 
--- src/label.rt:85:1
+-- where the text is used
+known : (c : goal.After-slice_known-3-1) → Kept c.args.out.now c.args.at c.args.label
+unfolding unusable
+known c =
+    let room = there c.args.at 75 (length c.args.out.now) c.lacks_room.ensures c.if-lacks_room.false in
+    kept c.args.out.now c.args.at c.args.label room c.if-size-pair.false (search rules)
+
 pub returns-clause-answer : goal.returns-clause-answer
-returns-clause-answer c = ?
+returns-clause-answer c = (accepted (known c) c.put_letters.ensures c.put_two.ensures).0
 
--- src/label.rt:85:1
 pub returns-clause-buffer : goal.returns-clause-buffer
-returns-clause-buffer c = ?
+returns-clause-buffer c = (accepted (known c) c.put_letters.ensures c.put_two.ensures).1

@@ -1,6 +1,7 @@
 // The output's lines, put into a lent buffer, whole or what follows the number: all of it, or nothing where it has no
 // room.
 #![tactic(auto)]
+
 ghost use Rattle.std.specs.Prelude.{◌≡◌, ◌+◌, ◌≤◌, [], ◌∷◌, ◌++◌, length, ltb, pos};
 ghost use Rattle.lines.specs.Says.{written_says};
 ghost use Rattle.lines.specs.Text.{signed, line_text, end_text, tail_text, input_text, values_text};

@@ -1,6 +1,5 @@
 -- `line_size` adds up the sizes of a line's parts.
-use Rattle.std.proofs.Common.{◌+◌, ◌≤◌, ◌≡◌, arith, length}
-use Rattle.lines.specs.Text.{line_text}
+use Rattle.std.proofs.Common.{◌+◌, ◌≤◌, arith}
 use Rattle.lines.specs.Buffer.{line_room}
 use Rattle.lines.proofs.Sizes.{line_room_lem}
 use Rattle.lines.proofs.Signs.{same}

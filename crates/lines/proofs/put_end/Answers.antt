@@ -2,7 +2,7 @@
 use Rattle.std.proofs.Common.{arith}
 use Rattle.lines.specs.Text.{end_text}
 use Rattle.lines.proofs.Decimal.{size_64}
-use Rattle.lines.proofs.WordLine.{End, end_counted, end_total, for_cycles, for_reading, whole_end}
+use Rattle.lines.proofs.WordLine.{End, end_counted, end_total, whole_end}
 use Rattle.lines.proofs.Whole.{no_room}
 use Rattle.lines.proofs.put_end.Goals as goal
 

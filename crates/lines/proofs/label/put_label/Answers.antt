@@ -2,7 +2,7 @@
 use Rattle.std.proofs.Common.{arith, rules, length}
 use Rattle.lines.specs.Naming.{unusable}
 use Rattle.lines.proofs.Decimal.{size_64}
-use Rattle.lines.proofs.Labels.{no_room, whole_number, Kept, kept, pair_room, space_room, accepted}
+use Rattle.lines.proofs.Labels.{no_room, whole_number, Kept, kept, accepted}
 use Rattle.lines.proofs.Parts.{there}
 use Rattle.lines.proofs.label.put_label.Goals as goal
 

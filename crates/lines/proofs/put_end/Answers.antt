@@ -4,6 +4,7 @@ use Rattle.lines.specs.Text.{end_text}
 use Rattle.lines.proofs.Decimal.{size_64}
 use Rattle.lines.proofs.WordLine.{End, end_counted, end_total, whole_end}
 use Rattle.lines.proofs.Whole.{no_room}
+use Rattle.lines.proofs.put_end.Goals.{Else-lacks_room}
 use Rattle.lines.proofs.put_end.Goals as goal
 
 pub overflow_add-size : goal.overflow_add-size
@@ -23,13 +24,13 @@ returns-then-lacks_room-clause-buffer c =
     (no_room a.out.now a.at (end_text a.cycles a.reading) (end_total a.cycles a.reading c.places-cycles_size.ensures c.places-reading_size.ensures) c.lacks_room.ensures c.if-lacks_room.true).1
 
 -- where the room was found
-counted : (c : goal.After-slice_known-4-1) → End c.args.out.now c.args.at c.args.cycles c.args.reading
+counted : (c : Else-lacks_room) → End c.args.out.now c.args.at c.args.cycles c.args.reading
 counted c =
     let a = c.args in
     end_counted a.out.now a.at a.cycles a.reading c.places-cycles_size.ensures c.places-reading_size.ensures c.lacks_room.ensures c.if-lacks_room.false
 
 pub returns-clause-answer : goal.returns-clause-answer
-returns-clause-answer c = (whole_end (counted c) c.put_letters.ensures c.put_number-third.ensures c.put_number-end.ensures).0
+returns-clause-answer c = (whole_end (counted (goal.at.returns-clause-answer c).Else-lacks_room) c.put_letters.ensures c.put_number-third.ensures c.put_number-end.ensures).0
 
 pub returns-clause-buffer : goal.returns-clause-buffer
-returns-clause-buffer c = (whole_end (counted c) c.put_letters.ensures c.put_number-third.ensures c.put_number-end.ensures).1
+returns-clause-buffer c = (whole_end (counted (goal.at.returns-clause-buffer c).Else-lacks_room) c.put_letters.ensures c.put_number-third.ensures c.put_number-end.ensures).1

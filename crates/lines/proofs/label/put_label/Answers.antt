@@ -4,6 +4,7 @@ use Rattle.lines.specs.Naming.{unusable}
 use Rattle.lines.proofs.Decimal.{size_64}
 use Rattle.lines.proofs.Labels.{no_room, whole_number, Kept, kept, accepted}
 use Rattle.lines.proofs.Parts.{there}
+use Rattle.lines.proofs.label.put_label.Goals.{Else-size-pair}
 use Rattle.lines.proofs.label.put_label.Goals as goal
 
 pub returns-then-lacks_room-clause-answer : goal.returns-then-lacks_room-clause-answer
@@ -30,14 +31,14 @@ returns-then-size-pair-clause-buffer c =
     (whole_number c.args.out.now c.args.at c.args.label room c.if-size-pair.true (rw c.whole-number.ensures at c.put_long.ensures)).1
 
 -- where the text is used
-known : (c : goal.After-slice_known-3-1) → Kept c.args.out.now c.args.at c.args.label
+known : (c : Else-size-pair) → Kept c.args.out.now c.args.at c.args.label
 unfolding unusable
 known c =
     let room = there c.args.at 75 (length c.args.out.now) c.lacks_room.ensures c.if-lacks_room.false in
     kept c.args.out.now c.args.at c.args.label room c.if-size-pair.false (search rules)
 
 pub returns-clause-answer : goal.returns-clause-answer
-returns-clause-answer c = (accepted (known c) c.put_letters.ensures c.put_two.ensures).0
+returns-clause-answer c = (accepted (known (goal.at.returns-clause-answer c).Else-size-pair) c.put_letters.ensures c.put_two.ensures).0
 
 pub returns-clause-buffer : goal.returns-clause-buffer
-returns-clause-buffer c = (accepted (known c) c.put_letters.ensures c.put_two.ensures).1
+returns-clause-buffer c = (accepted (known (goal.at.returns-clause-buffer c).Else-size-pair) c.put_letters.ensures c.put_two.ensures).1

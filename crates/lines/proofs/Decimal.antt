@@ -1,13 +1,5 @@
 -- The digits of a number by its last one, two or four, and how many they are.
-use Prim.Native.Nat.{ℕ, zero, suc, ◌+◌, ◌-◌, ◌*◌, ◌/◌, ◌%◌, ◌^◌, ◌≤◌, ◌<◌}
-use mathlib.Core.Path.{◌≡◌, refl, sym, ap, ◌∙◌}
-use mathlib.Core.Bool.{Bool, true, false, cond}
-use mathlib.Core.List.{List, [], ◌∷◌, ◌++◌, append_assoc}
-use native.Mathlib.Omega.{arith}
-use native.Mathlib.Nat.{pow-suc}
-use lib.ListN.{length, length-append}
-use lib.Dec.{ltb}
-use borrow.Author.Tests.{lt-ltb, le-ltb, ltb-true, ltb-false}
+use Rattle.std.proofs.Common.{ℕ, zero, suc, ◌+◌, ◌/◌, ◌%◌, ◌^◌, ◌≤◌, ◌<◌, ◌≡◌, refl, sym, ap, ◌∙◌, Bool, true, false, cond, List, [], ◌∷◌, ◌++◌, append_assoc, arith, pow-suc, length, length-append, ltb, lt-ltb, le-ltb, ltb-true, ltb-false}
 use Rattle.lines.specs.Text.{digits_of, decimal}
 use Rattle.lines.specs.Writing.{two, four}
 
@@ -41,17 +33,6 @@ more (suc m) h =
 
 pub two_digits : (n : ℕ) → 10 ≤ n → n < 100 → decimal n ≡ two n
 two_digits n h k = more n h ∙ ap (λ (t : List ℕ). t ++ ((48 + n % 10) ∷ [])) (one (n / 10) (omega arith))
-
--- both digits of a number below 100 as one number of two bytes: the first in the low byte, the last in the high one
-module _ (n : ℕ) (h : n < 100) where
-  pair : 256 * n + 12336 - 2559 * (n * 103 / 1024) ≡ 256 * (48 + n % 10) + (48 + n / 10)
-  pair = let tens : n * 103 / 1024 ≡ n / 10 = omega arith in rw tens (omega arith)
-
-  pub first_digit : (256 * n + 12336 - 2559 * (n * 103 / 1024)) % 256 ≡ 48 + n / 10
-  first_digit = rw pair (omega arith)
-
-  pub last_digit : (256 * n + 12336 - 2559 * (n * 103 / 1024)) / 256 ≡ 48 + n % 10
-  last_digit = rw pair (omega arith)
 
 -- the last two digits apart
 pub by_two : (n : ℕ) → 100 ≤ n → decimal n ≡ decimal (n / 100) ++ two (n % 100)

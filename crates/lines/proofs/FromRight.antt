@@ -1,10 +1,7 @@
 -- Digits put from the right, four a turn: putting what is left of a number finishes it.
-use Prim.Native.Nat.{◌-◌, ℕ, ◌+◌, ◌/◌, ◌%◌, ◌≤◌}
-use mathlib.Core.Path.{◌≡◌, sym, ap, ◌∙◌}
-use mathlib.Core.List.{List}
-use native.Mathlib.Omega.{arith}
-use lib.ListN.{length}
-use lib.Seq.{sets, length-sets}
+use Rattle.std.proofs.Common.{◌-◌, ℕ, ◌+◌, ◌/◌, ◌%◌, ◌≤◌, ◌≡◌, sym, ap, ◌∙◌, List, arith, length}
+use Rattle.std.proofs.lemmas.List.Edits.{sets}
+use lib.Seq.{length-sets}
 use Rattle.lines.specs.Text.{decimal}
 use Rattle.lines.specs.Writing.{four}
 use Rattle.lines.proofs.Decimal.{by_four, size_by_four}

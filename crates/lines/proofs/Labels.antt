@@ -1,13 +1,7 @@
 -- What the tests of a label's functions decide, and that the code's stores make the label's text.
-use Prim.Native.Nat.{ℕ, ◌+◌, ◌≤◌, ◌<◌}
-use mathlib.Core.Path.{◌≡◌, refl, sym, ap, ◌∙◌}
-use mathlib.Core.Bool.{Bool, true, false, ◌||◌}
-use mathlib.Core.List.{List, [], ◌∷◌, ◌++◌, append_assoc}
-use native.Mathlib.Omega.{arith}
-use lib.ListN.{length, take, set, replicate, length-append}
-use lib.Seq.{sets, length-sets, length-take-le}
-use lib.Dec.{ltb, leb, eqb}
-use borrow.Author.Tests.{le-ltb, ltb-false, leb-false, eqb-false}
+use Rattle.std.proofs.Common.{ℕ, ◌+◌, ◌≤◌, ◌<◌, ◌≡◌, refl, sym, ap, ◌∙◌, Bool, true, false, ◌||◌, List, [], ◌∷◌, ◌++◌, append_assoc, arith, length, take, set, replicate, length-append, length-take-le, ltb, leb, eqb, le-ltb, ltb-false, leb-false}
+use Rattle.std.proofs.lemmas.List.Edits.{sets}
+use borrow.Author.Tests.{eqb-false}
 use Rattle.error.specs.declared.Refusal.TheVariants.{NoSpace}
 use Rattle.lines.specs.declared.Written.TheVariants as W
 use Rattle.lines.specs.declared.label.Label.{Label}
@@ -79,7 +73,6 @@ pub record Kept (buffer : List ℕ) (at : ℕ) (l : Label) : Type 0 where
   pub used : unusable l ≡ false
   pub long : length l.text ≡ 8
   pub few : l.size ≤ 8
-  pub small : l.pair < 100
 
 module _ (buffer : List ℕ) (at : ℕ) (l : Label) where
   pub kept : at + line_room ≤ length buffer → unusable l ≡ false → length l.text ≡ 8 → Kept buffer at l
@@ -87,43 +80,21 @@ module _ (buffer : List ℕ) (at : ℕ) (l : Label) where
   kept room e long =
       let parts = neither (eqb l.size 0 || ltb 8 l.size) (ltb 99 l.pair) e in
       let sizes = neither (eqb l.size 0) (ltb 8 l.size) parts.0 in
-      let few = ltb-false 8 l.size sizes.1 in
-      let small = ltb-false 99 l.pair parts.1 in
-      record { room = room; used = e; long = long; few = few; small = omega arith }
+      record { room = room; used = e; long = long; few = ltb-false 8 l.size sizes.1 }
 
-module _ {buffer : List ℕ} {at : ℕ} {l : Label} (known : Kept buffer at l) {first : List ℕ} (text : first ≡ sets buffer at l.text) where
-  -- the text leaves the buffer's length
-  pub still_long : length first ≡ length buffer
-  still_long = ap length text ∙ length-sets buffer at l.text
+module _ {buffer : List ℕ} {at : ℕ} {l : Label} (known : Kept buffer at l) {first second : List ℕ} (text : first ≡ sets buffer at l.text) (pair : second ≡ sets first (at + l.size) (two l.pair)) where
+  -- the text's front, the pair and the space are the label's text
+  label_stands : Put (sets buffer at (underneath l)) (set second (at + l.size + 2) 32) at (at + l.size + 2 + 1) (label_text l)
+  label_stands =
+      let few : l.size ≤ length l.text = let a = known.few in let b = known.long in omega arith in
+      rw ((text_kept l known.used).0, (text_kept l known.used).1) (record {
+        next = let front = length-take-le l.size l.text few in omega (arith, length-append (take l.size l.text) (two l.pair ++ 32 ∷ []));
+        bytes =
+            ap (λ (m : List ℕ). set m (at + l.size + 2) 32) pair ∙
+            sym (in_parts first (at + l.size) (two l.pair) (32 ∷ [])) ∙
+            ap (λ (m : List ℕ). sets m (at + l.size) (two l.pair ++ 32 ∷ [])) text ∙
+            behind_front buffer at l.text l.size (two l.pair ++ 32 ∷ []) few;
+      })
 
-  -- what the pair asks for, and the space after it
-  pub pair_room : Below first (at + l.size) l.pair 100 2
-  pair_room =
-      let same = still_long in
-      let room = known.room in
-      let few = known.few in
-      record { small = known.small; room = omega arith }
-
-  module _ {second : List ℕ} (pair : second ≡ sets first (at + l.size) (two l.pair)) where
-    pub space_room : at + l.size + 2 < length second
-    space_room =
-        let same = ap length pair ∙ length-sets first (at + l.size) (two l.pair) ∙ still_long in
-        let room = known.room in
-        let few = known.few in
-        omega arith
-
-    -- the text's front, the pair and the space are the label's text
-    label_stands : Put (sets buffer at (underneath l)) (set second (at + l.size + 2) 32) at (at + l.size + 2 + 1) (label_text l)
-    label_stands =
-        let few : l.size ≤ length l.text = let a = known.few in let b = known.long in omega arith in
-        rw ((text_kept l known.used).0, (text_kept l known.used).1) (record {
-          next = let front = length-take-le l.size l.text few in omega (arith, length-append (take l.size l.text) (two l.pair ++ 32 ∷ []));
-          bytes =
-              ap (λ (m : List ℕ). set m (at + l.size + 2) 32) pair ∙
-              sym (in_parts first (at + l.size) (two l.pair) (32 ∷ [])) ∙
-              ap (λ (m : List ℕ). sets m (at + l.size) (two l.pair ++ 32 ∷ [])) text ∙
-              behind_front buffer at l.text l.size (two l.pair ++ 32 ∷ []) few;
-        })
-
-    pub accepted : (W.Accepted (at + l.size + 2 + 1) ≡ label_written buffer at l) × (set second (at + l.size + 2) 32 ≡ label_put buffer at l)
-    accepted = stands buffer at l known.room label_stands
+  pub accepted : (W.Accepted (at + l.size + 2 + 1) ≡ label_written buffer at l) × (set second (at + l.size + 2) 32 ≡ label_put buffer at l)
+  accepted = stands buffer at l known.room label_stands

@@ -1,14 +1,8 @@
 -- A label stays its number's from line to line, and its text is that number's.
-use Prim.Native.Nat.{ℕ, zero, suc, ◌+◌, ◌*◌, ◌/◌, ◌%◌, ◌≤◌, ◌<◌}
-use mathlib.Core.Path.{◌≡◌, refl, sym, ap, ◌∙◌}
-use mathlib.Core.Bool.{Bool, true, false, cond, ◌||◌}
-use mathlib.Core.Logic.{◌⊎◌, inl, inr}
-use mathlib.Core.List.{List, [], ◌∷◌, ◌++◌}
-use native.Mathlib.Omega.{arith}
-use lib.ListN.{length, take, drop, set, replicate}
-use lib.Seq.{sets, sets-eq, set-set, length-sets, length-take-le, take-append_seam}
-use lib.Dec.{ltb, leb, eqb}
-use borrow.Author.Tests.{le-leb, lt-leb, le-ltb, eq-eqb, ne_eqb, ltb-true, ltb-false, leb-false, eqb-false}
+use Rattle.std.proofs.Common.{ℕ, zero, suc, ◌+◌, ◌*◌, ◌/◌, ◌%◌, ◌≤◌, ◌<◌, ◌≡◌, refl, sym, ap, ◌∙◌, Bool, true, false, cond, ◌||◌, ◌⊎◌, inl, inr, List, [], ◌∷◌, ◌++◌, arith, length, take, drop, set, replicate, set-set, length-take-le, ltb, leb, eqb, le-leb, le-ltb, eq-eqb, ne_eqb, ltb-true, ltb-false, leb-false}
+use Rattle.std.proofs.lemmas.List.Edits.{sets}
+use lib.Seq.{sets-eq, length-sets, take-append_seam}
+use borrow.Author.Tests.{lt-leb, eqb-false}
 use Rattle.error.specs.Numbers.{max64}
 use Rattle.error.proofs.Tests.{clash}
 use Rattle.lines.specs.declared.label.Label.{Label}

@@ -1,13 +1,6 @@
 -- Room for the parts of a line: what is asked for once, and what each part leaves.
-use Prim.Native.Nat.{ℕ, ◌+◌, ◌≤◌}
-use mathlib.Core.Path.{◌≡◌, sym, ap, ◌∙◌}
-use mathlib.Core.Bool.{Bool, false}
-use mathlib.Core.List.{List, [], ◌∷◌, ◌++◌}
-use native.Mathlib.Omega.{arith}
-use lib.ListN.{length}
-use lib.Seq.{sets, length-sets}
-use lib.Dec.{ltb}
-use borrow.Author.Tests.{ltb-false}
+use Rattle.std.proofs.Common.{ℕ, ◌+◌, ◌≤◌, ◌≡◌, sym, ap, ◌∙◌, Bool, false, List, [], ◌∷◌, ◌++◌, arith, length, ltb, ltb-false}
+use lib.Seq.{length-sets}
 use Rattle.lines.specs.Writing.{Put}
 use Rattle.lines.proofs.Stores.{byte_end}
 
@@ -16,12 +9,6 @@ pub spent : {l l' : List ℕ} {at next : ℕ} (text : List ℕ) (b k : ℕ) → 
 spent {l} {l'} {at} text b k h put =
     let same = ap length put.bytes ∙ length-sets l at (text ++ b ∷ []) in
     let end = byte_end text b put in
-    omega arith
-
--- and so do letters
-pub after_letters : (l : List ℕ) {l' : List ℕ} (at : ℕ) (letters : List ℕ) (k : ℕ) → at + (length letters + k) ≤ length l → l' ≡ sets l at letters → at + length letters + k ≤ length l'
-after_letters l at letters k h e =
-    let same = ap length e ∙ length-sets l at letters in
     omega arith
 
 -- the room that was asked for is there

@@ -1,56 +1,10 @@
--- A code of 32 bits: wider, turned round where it is below 0, and its text by the test.
-use Prim.Native.Nat.{ℕ, suc, ◌+◌}
-use mathlib.Core.Path.{◌≡◌, refl, ap, ◌∙◌}
-use mathlib.Core.Bool.{true, false}
-use mathlib.Core.List.{List, [], ◌∷◌, ◌++◌}
-use native.Mathlib.Omega.{arith}
-use native.Mathlib.Numerals.{add-one}
-use lib.Dec.{T}
-use lib.IntN.{◌-ℤ◌, ℤ, pos, negsuc, nat_abs}
-use lib.Signed.{lt_z, non_neg}
-use lib.ListN.{length, set, length-set}
-use lib.Seq.{sets}
-use borrow.Author.Tests.{ltb-true}
-use mir.Syntax.{w32, w64}
-use mir.Val.{SFits, Fits, to_z, of_z}
-use mir.Facts.{to_z-of_z, sfits_widen}
+-- A code of 32 bits: as it was handed on, and its text by the test.
+use Rattle.std.proofs.Common.{ℕ, ◌+◌, ◌≡◌, refl, ap, ◌∙◌, true, false, List, [], ◌∷◌, ◌++◌, arith, add-one, ℤ, pos, negsuc, nat_abs, length, set, length-set, ltb-true, w32, SFits, to_z, of_z, to_z-of_z}
+use lib.Signed.{lt_z}
+use Rattle.std.proofs.lemmas.List.Edits.{sets}
 use Rattle.error.proofs.Tests.{clash}
 use Rattle.lines.specs.Text.{decimal, signed}
 use Rattle.lines.specs.Writing.{Room, Put}
-
-pub widened : {z : ℤ} → SFits w32 z → SFits w64 (to_z w32 (of_z w32 z))
-widened h = rw (to_z-of_z h) (sfits_widen tt h)
-
-pub wide : {z : ℤ} → SFits w32 z → to_z w64 (of_z w64 (to_z w32 (of_z w32 z))) ≡ z
-wide h = to_z-of_z (widened h) ∙ to_z-of_z h
-
-size_fits : (z : ℤ) → SFits w32 z → Fits w64 (nat_abs z)
-size_fits (pos n) h = let k = h.sfits in record { fits = omega arith }
-size_fits (negsuc n) h = let k = h.sfits in record { fits = omega arith }
-
-turned : (z : ℤ) → SFits w32 z → lt_z z (pos 0) ≡ true → (pos 0 -ℤ z ≡ pos (nat_abs z)) × (SFits w64 (pos 0 -ℤ z))
-turned (pos n) h e = let k = ltb-true n 0 e in absurd (omega arith)
-turned (negsuc n) h e = let k = h.sfits in let same : 0 + suc n ≡ suc n = omega arith in (ap pos same, record { sfits = omega arith })
-
-module _ {z w : ℤ} (h : SFits w32 z) (is : w ≡ z) where
-  -- below 0: what 0 - z is, and that it fits
-  pub turn_fits : lt_z w (pos 0) ≡ true → SFits w64 (pos 0 -ℤ w)
-  turn_fits e = rw is (turned z h (rw is at e)).1
-
-  pub turn_is : lt_z w (pos 0) ≡ true → to_z w64 (of_z w64 (pos 0 -ℤ w)) ≡ pos (nat_abs z)
-  turn_is e = to_z-of_z (turn_fits e) ∙ (rw is (turned z h (rw is at e)).0)
-
-  -- not below 0
-  pub stays : lt_z w (pos 0) ≡ false → w ≡ pos (nat_abs z)
-  stays e = is ∙ by_sign z (rw is at e)
-    where
-      by_sign : (z : ℤ) → lt_z z (pos 0) ≡ false → z ≡ pos (nat_abs z)
-      by_sign (pos n) e = refl
-      by_sign (negsuc n) e = clash (cc)
-
--- a number as a cast asks for it
-pub cast : {w : ℤ} {z : ℤ} → SFits w32 z → w ≡ pos (nat_abs z) → T (non_neg w) × Fits w64 (nat_abs w)
-cast {w} {z} h e = rw e (tt, size_fits z h)
 
 -- a code that was handed on is the same
 pub same : {z : ℤ} → SFits w32 z → to_z w32 (of_z w32 z) ≡ z

@@ -1,14 +1,6 @@
 -- How long each text is, and the most that it can be.
-use Prim.Native.Nat.{ℕ, suc, ◌+◌, ◌^◌, ◌≤◌, ◌<◌}
-use mathlib.Core.Path.{◌≡◌, refl}
-use mathlib.Core.List.{List, [], ◌∷◌, ◌++◌}
-use native.Mathlib.Omega.{arith}
-use lib.ListN.{length, length-append}
-use lib.IntN.{ℤ, pos, negsuc}
+use Rattle.std.proofs.Common.{ℕ, suc, ◌+◌, ◌^◌, ◌≤◌, ◌<◌, ◌≡◌, refl, List, [], ◌∷◌, ◌++◌, arith, length, length-append, ℤ, pos, negsuc, w32, SFits, to_z, of_z, to_z-of_z}
 use lib.Signed.{mag}
-use mir.Syntax.{w32}
-use mir.Val.{SFits, to_z, of_z}
-use mir.Facts.{to_z-of_z}
 use Rattle.lines.specs.Text.{decimal, signed, values_text, line_text, end_text, tail_text, input_text}
 use Rattle.lines.specs.Buffer.{line_room, rest_room, end_room}
 use Rattle.lines.proofs.Decimal.{size_most, size_64}

@@ -1,14 +1,6 @@
 -- A step's line from its four parts, and what follows its number from three.
-use Prim.Native.Nat.{ℕ, ◌+◌, ◌^◌, ◌≤◌, ◌<◌}
-use mathlib.Core.Path.{◌≡◌, refl, sym}
-use mathlib.Core.Bool.{Bool, false}
-use mathlib.Core.List.{List, [], ◌∷◌, ◌++◌, append_assoc}
-use native.Mathlib.Omega.{arith}
-use lib.ListN.{length, set}
-use lib.Dec.{ltb}
-use lib.IntN.{ℤ, pos}
+use Rattle.std.proofs.Common.{ℕ, ◌+◌, ◌^◌, ◌≤◌, ◌<◌, ◌≡◌, refl, sym, Bool, false, List, [], ◌∷◌, ◌++◌, append_assoc, arith, length, set, ltb, ℤ, pos, le-ltb}
 use lib.Signed.{mag}
-use borrow.Author.Tests.{le-ltb}
 use Rattle.lines.specs.declared.Written.TheVariants as W
 use Rattle.lines.specs.Text.{decimal, signed, values_text, line_text}
 use Rattle.lines.specs.Buffer.{written_of, put_of, line_room, rest_room}

@@ -1,12 +1,7 @@
 -- Runs of stores: one after the other, and one that comes out of turn.
-use Prim.Native.Nat.{ℕ, suc, ◌+◌, ◌≤◌, ◌<◌}
-use mathlib.Core.Path.{◌≡◌, refl, sym, ap, ◌∙◌}
-use mathlib.Core.List.{List, [], ◌∷◌, ◌++◌, append_assoc}
-use native.Mathlib.Omega.{arith}
-use native.Mathlib.Numerals.{add-one}
-use native.Mathlib.Nat.{add-suc, suc-add, add-zero}
-use lib.ListN.{length, get_or, set, drop, length-append, length-set, drop_of_length-le}
-use lib.Seq.{sets, set_comm, drop-cons}
+use Rattle.std.proofs.Common.{ℕ, suc, ◌+◌, ◌≤◌, ◌≡◌, refl, sym, ap, ◌∙◌, List, [], ◌∷◌, ◌++◌, append_assoc, arith, add-suc, suc-add, add-zero, length, set, drop, length-append}
+use Rattle.std.proofs.lemmas.List.Edits.{sets}
+use lib.Seq.{set_comm}
 use Rattle.lines.specs.Writing.{Put}
 
 -- a run in two parts
@@ -61,14 +56,3 @@ pub record Copying (start out : List ℕ) (at : ℕ) (text : List ℕ) (next i :
   pub place : next ≡ at + i
   pub kept : length out ≡ length start
   pub rest : sets out next (drop i text) ≡ sets start at text
-
-module _ {start out : List ℕ} {at : ℕ} {text : List ℕ} {next i : ℕ} (so_far : Copying start out at text next i) where
-  pub copied : i < length text → Copying start (set out next (get_or text i 0)) at text (next + 1) (i + 1)
-  copied h = record {
-    place = let p = so_far.place in omega arith;
-    kept = length-set out next (get_or text i 0) ∙ so_far.kept;
-    rest = rw (add-one next, add-one i) (sym (ap (sets out next) (drop-cons text i 0 h)) ∙ so_far.rest);
-  }
-
-  pub all_copied : length text ≤ i → out ≡ sets start at text
-  all_copied h = sym (ap (sets out next) (drop_of_length-le text h)) ∙ so_far.rest

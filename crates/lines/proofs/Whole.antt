@@ -1,13 +1,8 @@
 -- A whole text or nothing: what the room decides, for the answer and the buffer.
-use Prim.Native.Nat.{ℕ, ◌+◌, ◌≤◌, ◌<◌}
-use mathlib.Core.Path.{◌≡◌, refl, sym, ap, ◌∙◌}
-use mathlib.Core.Bool.{Bool, true, false, cond}
-use mathlib.Core.List.{List}
-use native.Mathlib.Omega.{arith}
-use lib.ListN.{length}
-use lib.Seq.{sets, length-sets}
-use lib.Dec.{ltb, leb}
-use borrow.Author.Tests.{le-leb, lt-leb, le-ltb, ltb-true}
+use Rattle.std.proofs.Common.{ℕ, ◌+◌, ◌≤◌, ◌<◌, ◌≡◌, refl, sym, ap, ◌∙◌, Bool, true, false, cond, List, arith, length, ltb, leb, le-leb, le-ltb, ltb-true}
+use Rattle.std.proofs.lemmas.List.Edits.{sets}
+use lib.Seq.{length-sets}
+use borrow.Author.Tests.{lt-leb}
 use Rattle.error.specs.declared.Refusal.TheVariants.{NoSpace}
 use Rattle.lines.specs.declared.Written.TheVariants as W
 use Rattle.lines.specs.Buffer.{fits, put_of, written_of, roomy_put, roomy_written}

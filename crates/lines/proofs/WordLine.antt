@@ -1,21 +1,14 @@
 -- The lines that begin with a word, from their parts.
-use Prim.Native.Nat.{ℕ, ◌+◌, ◌≤◌}
-use mathlib.Core.Path.{◌≡◌, refl}
-use mathlib.Core.Bool.{Bool, false}
-use mathlib.Core.List.{List, [], ◌∷◌, ◌++◌, append_assoc}
-use native.Mathlib.Omega.{arith}
-use lib.ListN.{length}
-use lib.Seq.{sets}
-use lib.Dec.{ltb}
-use lib.IntN.{ℤ}
+use Rattle.std.proofs.Common.{ℕ, ◌+◌, ◌≤◌, ◌≡◌, refl, Bool, false, List, [], ◌∷◌, ◌++◌, append_assoc, arith, length, ltb, ℤ}
+use Rattle.std.proofs.lemmas.List.Edits.{sets}
 use Rattle.lines.specs.declared.Written.TheVariants as W
 use Rattle.lines.specs.Text.{decimal, signed, end_text}
 use Rattle.lines.specs.Buffer.{written_of, put_of}
-use Rattle.lines.specs.Writing.{Room, Put}
+use Rattle.lines.specs.Writing.{Put}
 use Rattle.lines.proofs.Stores.{then, then_byte}
 use Rattle.lines.proofs.Sizes.{end_size, reason_size}
 use Rattle.lines.proofs.Whole.{whole}
-use Rattle.lines.proofs.Parts.{spent, there, after_letters}
+use Rattle.lines.proofs.Parts.{there}
 
 -- "end "
 abbrev end_letters : List ℕ
@@ -34,23 +27,13 @@ pub end_total : (cycles reading : ℕ) {a b : ℕ} → a ≡ length (decimal cyc
 end_total cycles reading p q = omega (arith, end_size cycles reading)
 
 module _ {l : List ℕ} {at n m : ℕ} (line : End l at n m) where
-  module _ {l₁ : List ℕ} (p : l₁ ≡ sets l at end_letters) where
-    left_1 : at + 4 + (length (decimal n) + 1 + (length (decimal m) + 1)) ≤ length l₁
-    left_1 = after_letters l at end_letters _ line.room p
-
-    pub for_cycles : Room l₁ (at + 4) (decimal n)
-    for_cycles = record { room = omega (arith, left_1) }
-
-    module _ {l₂ : List ℕ} {e₂ : ℕ} (q : Put l₁ l₂ (at + 4) e₂ (decimal n ++ 32 ∷ [])) where
-      pub for_reading : Room l₂ e₂ (decimal m)
-      for_reading = record { room = omega (arith, spent (decimal n) 32 _ left_1 q) }
-
-      pub whole_end : {l₃ : List ℕ} {e₃ : ℕ} → Put l₂ l₃ e₂ e₃ (decimal m ++ 10 ∷ []) → (W.Accepted e₃ ≡ written_of l at (end_text n m)) × (l₃ ≡ put_of l at (end_text n m))
-      unfolding end_text
-      whole_end r =
-          whole l at (end_text n m)
-          (let h = line.room in omega (arith, end_size n m))
-          (simp append_assoc (then end_letters _ (record { next = refl; bytes = p }) (then_byte (decimal n) 32 _ q r)))
+  module _ {l₁ l₂ : List ℕ} {e₂ : ℕ} (p : l₁ ≡ sets l at end_letters) (q : Put l₁ l₂ (at + 4) e₂ (decimal n ++ 32 ∷ [])) where
+    pub whole_end : {l₃ : List ℕ} {e₃ : ℕ} → Put l₂ l₃ e₂ e₃ (decimal m ++ 10 ∷ []) → (W.Accepted e₃ ≡ written_of l at (end_text n m)) × (l₃ ≡ put_of l at (end_text n m))
+    unfolding end_text
+    whole_end r =
+        whole l at (end_text n m)
+        (let h = line.room in omega (arith, end_size n m))
+        (simp append_assoc (then end_letters _ (record { next = refl; bytes = p }) (then_byte (decimal n) 32 _ q r)))
 
 -- a word and a code have room
 pub record Reason (l : List ℕ) (at : ℕ) (letters : List ℕ) (z : ℤ) : Type 0 where
@@ -65,9 +48,6 @@ reason_total letters z code is p = rw (← is) (omega (arith, reason_size letter
 
 module _ {l : List ℕ} {at : ℕ} {letters : List ℕ} {z : ℤ} (line : Reason l at letters z) where
   module _ {l₁ : List ℕ} (p : l₁ ≡ sets l at letters) where
-    pub for_reason : Room l₁ (at + length letters) (signed z)
-    for_reason = record { room = omega (arith, after_letters l at letters _ line.room p) }
-
     pub whole_reason : {l₂ : List ℕ} {e₂ : ℕ} {code : ℤ} → z ≡ code → Put l₁ l₂ (at + length letters) e₂ (signed z ++ 10 ∷ []) → (W.Accepted e₂ ≡ written_of l at (letters ++ signed code ++ 10 ∷ [])) × (l₂ ≡ put_of l at (letters ++ signed code ++ 10 ∷ []))
     whole_reason is q =
         rw (← is)

@@ -5,6 +5,7 @@ ghost use Rattle.lines.specs.Text.{decimal};
 ghost use Rattle.lines.specs.Writing.{two, four, Below, Counted, Room, Put};
 
 // At most four: no division.
+#[tactic(auto, using(crate::proofs::Decimal::size_one, crate::proofs::Decimal::size_two, crate::proofs::Decimal::size_three, crate::proofs::Decimal::size_four))]
 fn few_places(number: u64) -> usize
     requires { number < 10000 }
     ensures { result ≡ length (decimal number) }
@@ -22,6 +23,7 @@ fn few_places(number: u64) -> usize
 }
 
 // Four places a turn, since each turn costs a division.
+#[tactic(auto, using(crate::proofs::Decimal::size_by_four, crate::proofs::Decimal::size_64))]
 pub(crate) fn places(number: u64) -> usize
     ensures { result ≡ length (decimal number) }
 {

@@ -42,6 +42,7 @@ fn of_parts(head: u64, pair: u64) -> Label
 }
 
 impl Label {
+    #[tactic(auto, unfolding(crate::specs::Naming::label_of))]
     pub fn of(number: u64) -> Label
         ensures { result ≡ label_of number }
     {
@@ -51,6 +52,7 @@ impl Label {
     }
 
     // The next number's. Its text is another one once in a hundred.
+    #[tactic(auto, unfolding(crate::specs::Naming::next_label))]
     pub fn next(mut self) -> Label
         ensures { result ≡ next_label self }
     {
@@ -67,6 +69,7 @@ impl Label {
 }
 
 // The number that the two parts make; 0 where it has more than 64 bits.
+#[tactic(auto, unfolding(crate::specs::Naming::joined))]
 fn whole(head: u64, pair: u64) -> u64
     ensures { result ≡ joined head pair }
 {

@@ -1,6 +1,7 @@
 // The output's lines, put into a lent buffer, whole or what follows the number: all of it, or nothing where it has no
 // room.
 #![tactic(auto)]
+
 ghost use Rattle.std.specs.Prelude.{◌≡◌, ◌+◌, ◌≤◌, [], ◌∷◌, ◌++◌, length, ltb, pos};
 ghost use Rattle.lines.specs.Says.{written_says};
 ghost use Rattle.lines.specs.Text.{signed, line_text, end_text, tail_text, input_text, values_text};
@@ -29,6 +30,7 @@ pub enum Written {
     Refused(Refusal),
 }
 
+#[tactic(auto, unfolding(crate::specs::Says::written_says))]
 impl Written {
     pub fn number(self) -> i32
         ensures { result ≡ (written_says self).number }
@@ -153,6 +155,7 @@ fn put_reason(out: &mut [u8], at: usize, letters: &[u8], code: i32) -> Written
 }
 
 // A trace whose last record is not whole.
+#[tactic(auto, unfolding(crate::specs::Text::tail_text))]
 pub fn put_tail(out: &mut [u8], at: usize) -> Written
     ensures answer { result ≡ written_of out.old at tail_text }
     ensures buffer { out.new ≡ put_of out.old at tail_text }
@@ -161,6 +164,7 @@ pub fn put_tail(out: &mut [u8], at: usize) -> Written
 }
 
 // A trace that is larger than the room for it.
+#[tactic(auto, unfolding(crate::specs::Text::input_text))]
 pub fn put_input(out: &mut [u8], at: usize) -> Written
     ensures answer { result ≡ written_of out.old at input_text }
     ensures buffer { out.new ≡ put_of out.old at input_text }

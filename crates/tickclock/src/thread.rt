@@ -17,11 +17,7 @@ pub fn usage_enable_number(track_usage: u32, total_cycles: u64, num_windows: u32
     usage::enabled(before).number()
 }
 
-pub fn usage_enable_track_usage(
-    track_usage: u32,
-    total_cycles: u64,
-    num_windows: u32,
-) -> u32
+pub fn usage_enable_track_usage(track_usage: u32, total_cycles: u64, num_windows: u32) -> u32
     ensures { result ≡ flag_of (changed_says (enabled (usage_of track_usage total_cycles num_windows))).value.track_usage }
 {
     let before = plain::usage_of(track_usage, total_cycles, num_windows);
@@ -29,11 +25,7 @@ pub fn usage_enable_track_usage(
     plain::flag_of(after.track_usage)
 }
 
-pub fn usage_enable_total_cycles(
-    track_usage: u32,
-    total_cycles: u64,
-    num_windows: u32,
-) -> u64
+pub fn usage_enable_total_cycles(track_usage: u32, total_cycles: u64, num_windows: u32) -> u64
     ensures { result ≡ (changed_says (enabled (usage_of track_usage total_cycles num_windows))).value.total_cycles.0 }
 {
     let before = plain::usage_of(track_usage, total_cycles, num_windows);
@@ -41,11 +33,7 @@ pub fn usage_enable_total_cycles(
     after.total_cycles.0
 }
 
-pub fn usage_enable_num_windows(
-    track_usage: u32,
-    total_cycles: u64,
-    num_windows: u32,
-) -> u32
+pub fn usage_enable_num_windows(track_usage: u32, total_cycles: u64, num_windows: u32) -> u32
     ensures { result ≡ (changed_says (enabled (usage_of track_usage total_cycles num_windows))).value.num_windows }
 {
     let before = plain::usage_of(track_usage, total_cycles, num_windows);
@@ -60,11 +48,7 @@ pub fn usage_disable_number(track_usage: u32, total_cycles: u64, num_windows: u3
     usage::disabled(before).number()
 }
 
-pub fn usage_disable_track_usage(
-    track_usage: u32,
-    total_cycles: u64,
-    num_windows: u32,
-) -> u32
+pub fn usage_disable_track_usage(track_usage: u32, total_cycles: u64, num_windows: u32) -> u32
     ensures { result ≡ flag_of (changed_says (disabled (usage_of track_usage total_cycles num_windows))).value.track_usage }
 {
     let before = plain::usage_of(track_usage, total_cycles, num_windows);
@@ -72,11 +56,7 @@ pub fn usage_disable_track_usage(
     plain::flag_of(after.track_usage)
 }
 
-pub fn usage_disable_total_cycles(
-    track_usage: u32,
-    total_cycles: u64,
-    num_windows: u32,
-) -> u64
+pub fn usage_disable_total_cycles(track_usage: u32, total_cycles: u64, num_windows: u32) -> u64
     ensures { result ≡ (changed_says (disabled (usage_of track_usage total_cycles num_windows))).value.total_cycles.0 }
 {
     let before = plain::usage_of(track_usage, total_cycles, num_windows);
@@ -84,11 +64,7 @@ pub fn usage_disable_total_cycles(
     after.total_cycles.0
 }
 
-pub fn usage_disable_num_windows(
-    track_usage: u32,
-    total_cycles: u64,
-    num_windows: u32,
-) -> u32
+pub fn usage_disable_num_windows(track_usage: u32, total_cycles: u64, num_windows: u32) -> u32
     ensures { result ≡ (changed_says (disabled (usage_of track_usage total_cycles num_windows))).value.num_windows }
 {
     let before = plain::usage_of(track_usage, total_cycles, num_windows);
@@ -172,21 +148,13 @@ pub fn usage_elapsed_cycles_cycles(now: u32, usage0: u32) -> u32
     usage::elapsed_cycles(now, usage0)
 }
 
-pub fn usage_is_tracked_number(
-    track_usage: u32,
-    total_cycles: u64,
-    num_windows: u32,
-) -> i32
+pub fn usage_is_tracked_number(track_usage: u32, total_cycles: u64, num_windows: u32) -> i32
     ensures { result ≡ ok }
 {
     error::OK
 }
 
-pub fn usage_is_tracked_tracked(
-    track_usage: u32,
-    total_cycles: u64,
-    num_windows: u32,
-) -> u32
+pub fn usage_is_tracked_tracked(track_usage: u32, total_cycles: u64, num_windows: u32) -> u32
     ensures { result ≡ flag_of (usage_of track_usage total_cycles num_windows).track_usage }
 {
     let usage = plain::usage_of(track_usage, total_cycles, num_windows);

@@ -9,21 +9,13 @@ ghost use Rattle.tickclock.specs.Plain.{is_set, flag_of};
 use crate::plain;
 use units::{Cycles, Ticks};
 
-pub fn systick_elapsed_cycles_number(
-    last_count: u32,
-    current_count: u32,
-    load: u32,
-) -> i32
+pub fn systick_elapsed_cycles_number(last_count: u32, current_count: u32, load: u32) -> i32
     ensures { result ≡ (elapsed_cycles_says (elapsed_cycles last_count current_count load)).number }
 {
     systick::elapsed_cycles(last_count, current_count, load).number()
 }
 
-pub fn systick_elapsed_cycles_cycles(
-    last_count: u32,
-    current_count: u32,
-    load: u32,
-) -> u32
+pub fn systick_elapsed_cycles_cycles(last_count: u32, current_count: u32, load: u32) -> u32
     ensures { result ≡ (elapsed_cycles_says (elapsed_cycles last_count current_count load)).value }
 {
     systick::elapsed_cycles(last_count, current_count, load).cycles()

@@ -93,7 +93,13 @@ pub extern "C" fn systick_elapsed_decide_wrap_detected(
 ) -> u32
     ensures { result ≡ flag_of (elapsed_decide_says (elapsed_decide val1 val2 (is_set countflag) load overflow_cyc)).value.wrap_detected }
 {
-    tickclock::timer::systick_elapsed_decide_wrap_detected(val1, val2, countflag, load, overflow_cyc)
+    tickclock::timer::systick_elapsed_decide_wrap_detected(
+        val1,
+        val2,
+        countflag,
+        load,
+        overflow_cyc,
+    )
 }
 
 #[unsafe(no_mangle)]
@@ -106,7 +112,13 @@ pub extern "C" fn systick_elapsed_decide_new_overflow_cyc(
 ) -> u32
     ensures { result ≡ (elapsed_decide_says (elapsed_decide val1 val2 (is_set countflag) load overflow_cyc)).value.new_overflow_cyc }
 {
-    tickclock::timer::systick_elapsed_decide_new_overflow_cyc(val1, val2, countflag, load, overflow_cyc)
+    tickclock::timer::systick_elapsed_decide_new_overflow_cyc(
+        val1,
+        val2,
+        countflag,
+        load,
+        overflow_cyc,
+    )
 }
 
 #[unsafe(no_mangle)]
@@ -131,7 +143,12 @@ pub extern "C" fn systick_announce_decide_number(
 ) -> i32
     ensures { result ≡ (announce_decide_says (announce_decide (record { 0 = cycle_count }) (record { 0 = announced_cycles }) overflow_cyc cycles_per_tick)).number }
 {
-    tickclock::timer::systick_announce_decide_number(cycle_count, announced_cycles, overflow_cyc, cycles_per_tick)
+    tickclock::timer::systick_announce_decide_number(
+        cycle_count,
+        announced_cycles,
+        overflow_cyc,
+        cycles_per_tick,
+    )
 }
 
 #[unsafe(no_mangle)]
@@ -143,7 +160,12 @@ pub extern "C" fn systick_announce_decide_dticks(
 ) -> u32
     ensures { result ≡ (announce_decide_says (announce_decide (record { 0 = cycle_count }) (record { 0 = announced_cycles }) overflow_cyc cycles_per_tick)).value.dticks.0 }
 {
-    tickclock::timer::systick_announce_decide_dticks(cycle_count, announced_cycles, overflow_cyc, cycles_per_tick)
+    tickclock::timer::systick_announce_decide_dticks(
+        cycle_count,
+        announced_cycles,
+        overflow_cyc,
+        cycles_per_tick,
+    )
 }
 
 #[unsafe(no_mangle)]
@@ -155,7 +177,12 @@ pub extern "C" fn systick_announce_decide_new_cycle_count(
 ) -> u64
     ensures { result ≡ (announce_decide_says (announce_decide (record { 0 = cycle_count }) (record { 0 = announced_cycles }) overflow_cyc cycles_per_tick)).value.new_cycle_count.0 }
 {
-    tickclock::timer::systick_announce_decide_new_cycle_count(cycle_count, announced_cycles, overflow_cyc, cycles_per_tick)
+    tickclock::timer::systick_announce_decide_new_cycle_count(
+        cycle_count,
+        announced_cycles,
+        overflow_cyc,
+        cycles_per_tick,
+    )
 }
 
 #[unsafe(no_mangle)]
@@ -167,7 +194,12 @@ pub extern "C" fn systick_announce_decide_new_announced_cycles(
 ) -> u64
     ensures { result ≡ (announce_decide_says (announce_decide (record { 0 = cycle_count }) (record { 0 = announced_cycles }) overflow_cyc cycles_per_tick)).value.new_announced_cycles.0 }
 {
-    tickclock::timer::systick_announce_decide_new_announced_cycles(cycle_count, announced_cycles, overflow_cyc, cycles_per_tick)
+    tickclock::timer::systick_announce_decide_new_announced_cycles(
+        cycle_count,
+        announced_cycles,
+        overflow_cyc,
+        cycles_per_tick,
+    )
 }
 
 #[unsafe(no_mangle)]

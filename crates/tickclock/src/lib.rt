@@ -1,5 +1,6 @@
-// The leaves for C: plain numbers in, a number or one field out, or a thread record lent. Each refuses for itself.
+// The leaves for C: plain numbers in, a number or one field out, or a thread record lent. Each refuses for itself; crate tickclock_c exports them.
 #![tactic(auto)]
+
 pub mod lent;
 mod plain;
 pub mod thread;

@@ -5,18 +5,21 @@ ghost use Rattle.tickclock.specs.Plain.{is_set, flag_of, usage_of};
 use units::Cycles;
 use usage::ThreadUsage;
 
+#[tactic(auto, unfolding(crate::specs::Plain::is_set))]
 pub fn is_set(flag: u32) -> bool
     ensures { result ≡ is_set flag }
 {
     flag != 0
 }
 
+#[tactic(auto, unfolding(crate::specs::Plain::flag_of))]
 pub fn flag_of(on: bool) -> u32
     ensures { result ≡ flag_of on }
 {
     if on { 1 } else { 0 }
 }
 
+#[tactic(auto, unfolding(crate::specs::Plain::usage_of))]
 pub fn usage_of(track_usage: u32, total_cycles: u64, num_windows: u32) -> ThreadUsage
     ensures { result ≡ usage_of track_usage total_cycles num_windows }
 {

@@ -9,75 +9,59 @@ ghost use Rattle.tickclock.specs.Plain.{is_set, flag_of};
 use crate::plain;
 use units::{Cycles, Ticks};
 
-#[unsafe(no_mangle)]
-pub extern "C" fn systick_elapsed_cycles_number(
-    last_count: u32,
-    current_count: u32,
-    load: u32,
-) -> i32
+pub fn systick_elapsed_cycles_number(last_count: u32, current_count: u32, load: u32) -> i32
     ensures { result ≡ (elapsed_cycles_says (elapsed_cycles last_count current_count load)).number }
 {
     systick::elapsed_cycles(last_count, current_count, load).number()
 }
 
-#[unsafe(no_mangle)]
-pub extern "C" fn systick_elapsed_cycles_cycles(
-    last_count: u32,
-    current_count: u32,
-    load: u32,
-) -> u32
+pub fn systick_elapsed_cycles_cycles(last_count: u32, current_count: u32, load: u32) -> u32
     ensures { result ≡ (elapsed_cycles_says (elapsed_cycles last_count current_count load)).value }
 {
     systick::elapsed_cycles(last_count, current_count, load).cycles()
 }
 
-#[unsafe(no_mangle)]
-pub extern "C" fn systick_cycles_to_ticks_number(cycles: u64, cycles_per_tick: u32) -> i32
+pub fn systick_cycles_to_ticks_number(cycles: u64, cycles_per_tick: u32) -> i32
     ensures { result ≡ (cycles_to_ticks_says (cycles_to_ticks (record { 0 = cycles }) cycles_per_tick)).number }
 {
     systick::cycles_to_ticks(Cycles(cycles), cycles_per_tick).number()
 }
 
-#[unsafe(no_mangle)]
-pub extern "C" fn systick_cycles_to_ticks_ticks(cycles: u64, cycles_per_tick: u32) -> u64
+pub fn systick_cycles_to_ticks_ticks(cycles: u64, cycles_per_tick: u32) -> u64
     ensures { result ≡ (cycles_to_ticks_says (cycles_to_ticks (record { 0 = cycles }) cycles_per_tick)).value.0 }
 {
     let ticks = systick::cycles_to_ticks(Cycles(cycles), cycles_per_tick).ticks();
     ticks.0
 }
 
-#[unsafe(no_mangle)]
-pub extern "C" fn systick_ticks_to_cycles_number(ticks: u64, cycles_per_tick: u32) -> i32
+pub fn systick_ticks_to_cycles_number(ticks: u64, cycles_per_tick: u32) -> i32
     ensures { result ≡ (ticks_to_cycles_says (ticks_to_cycles (record { 0 = ticks }) cycles_per_tick)).number }
 {
     systick::ticks_to_cycles(Ticks(ticks), cycles_per_tick).number()
 }
 
-#[unsafe(no_mangle)]
-pub extern "C" fn systick_ticks_to_cycles_cycles(ticks: u64, cycles_per_tick: u32) -> u64
+pub fn systick_ticks_to_cycles_cycles(ticks: u64, cycles_per_tick: u32) -> u64
     ensures { result ≡ (ticks_to_cycles_says (ticks_to_cycles (record { 0 = ticks }) cycles_per_tick)).value.0 }
 {
     let cycles = systick::ticks_to_cycles(Ticks(ticks), cycles_per_tick).cycles();
     cycles.0
 }
 
-#[unsafe(no_mangle)]
-pub extern "C" fn systick_max_ticks_number(cycles_per_tick: u32) -> i32
+pub fn systick_max_ticks_number(cycles_per_tick: u32) -> i32
     ensures { result ≡ (max_ticks_says (max_ticks cycles_per_tick)).number }
 {
     systick::max_ticks(cycles_per_tick).number()
 }
 
-#[unsafe(no_mangle)]
-pub extern "C" fn systick_max_ticks_ticks(cycles_per_tick: u32) -> u32
+#[tactic(auto, using(systick::proofs::Widths::max_ticks_below))]
+pub fn systick_max_ticks_ticks(cycles_per_tick: u32) -> u32
     ensures { result ≡ (max_ticks_says (max_ticks cycles_per_tick)).value.0 }
 {
     let ticks = systick::max_ticks(cycles_per_tick).ticks();
     ticks.0 as u32
 }
 
-#[unsafe(no_mangle)]
-pub extern "C" fn systick_elapsed_decide_number(
+pub fn systick_elapsed_decide_number(
     val1: u32,
     val2: u32,
     countflag: u32,
@@ -90,8 +74,7 @@ pub extern "C" fn systick_elapsed_decide_number(
     systick::elapsed_decide(val1, val2, flag, load, overflow_cyc).number()
 }
 
-#[unsafe(no_mangle)]
-pub extern "C" fn systick_elapsed_decide_wrap_detected(
+pub fn systick_elapsed_decide_wrap_detected(
     val1: u32,
     val2: u32,
     countflag: u32,
@@ -104,8 +87,7 @@ pub extern "C" fn systick_elapsed_decide_wrap_detected(
     plain::flag_of(systick::elapsed_decide(val1, val2, flag, load, overflow_cyc).wrap_detected())
 }
 
-#[unsafe(no_mangle)]
-pub extern "C" fn systick_elapsed_decide_new_overflow_cyc(
+pub fn systick_elapsed_decide_new_overflow_cyc(
     val1: u32,
     val2: u32,
     countflag: u32,
@@ -118,8 +100,7 @@ pub extern "C" fn systick_elapsed_decide_new_overflow_cyc(
     systick::elapsed_decide(val1, val2, flag, load, overflow_cyc).new_overflow_cyc()
 }
 
-#[unsafe(no_mangle)]
-pub extern "C" fn systick_elapsed_decide_elapsed(
+pub fn systick_elapsed_decide_elapsed(
     val1: u32,
     val2: u32,
     countflag: u32,
@@ -132,8 +113,7 @@ pub extern "C" fn systick_elapsed_decide_elapsed(
     systick::elapsed_decide(val1, val2, flag, load, overflow_cyc).elapsed()
 }
 
-#[unsafe(no_mangle)]
-pub extern "C" fn systick_announce_decide_number(
+pub fn systick_announce_decide_number(
     cycle_count: u64,
     announced_cycles: u64,
     overflow_cyc: u32,
@@ -146,8 +126,8 @@ pub extern "C" fn systick_announce_decide_number(
     systick::announce_decide(count, announced, overflow_cyc, cycles_per_tick).number()
 }
 
-#[unsafe(no_mangle)]
-pub extern "C" fn systick_announce_decide_dticks(
+#[tactic(auto, using(systick::proofs::Widths::dticks_fit))]
+pub fn systick_announce_decide_dticks(
     cycle_count: u64,
     announced_cycles: u64,
     overflow_cyc: u32,
@@ -161,8 +141,7 @@ pub extern "C" fn systick_announce_decide_dticks(
     ticks.0 as u32
 }
 
-#[unsafe(no_mangle)]
-pub extern "C" fn systick_announce_decide_new_cycle_count(
+pub fn systick_announce_decide_new_cycle_count(
     cycle_count: u64,
     announced_cycles: u64,
     overflow_cyc: u32,
@@ -181,8 +160,7 @@ pub extern "C" fn systick_announce_decide_new_cycle_count(
     cycles.0
 }
 
-#[unsafe(no_mangle)]
-pub extern "C" fn systick_announce_decide_new_announced_cycles(
+pub fn systick_announce_decide_new_announced_cycles(
     cycle_count: u64,
     announced_cycles: u64,
     overflow_cyc: u32,
@@ -201,15 +179,13 @@ pub extern "C" fn systick_announce_decide_new_announced_cycles(
     cycles.0
 }
 
-#[unsafe(no_mangle)]
-pub extern "C" fn counter_value_number(raw: u32, load: u32) -> i32
+pub fn counter_value_number(raw: u32, load: u32) -> i32
     ensures { result ≡ (value_says (value_of raw load)).number }
 {
     counter::value_of(raw, load).number()
 }
 
-#[unsafe(no_mangle)]
-pub extern "C" fn counter_value_value(raw: u32, load: u32) -> u32
+pub fn counter_value_value(raw: u32, load: u32) -> u32
     ensures { result ≡ (value_says (value_of raw load)).value }
 {
     counter::value_of(raw, load).value()

@@ -1,8 +1,0 @@
--- `counter_value_number` hands on what the leaf's answer says.
-use borrow.Author.Rules.{rules}
-use Rattle.error.proofs.Answers.{handed}
-use Rattle.tickclock.proofs.timer.counter_value_number.Statement.{statement}
-use Rattle.tickclock.proofs.timer.counter_value_number.Tie as tie
-
-pub counter_value_number_spec : {M : Type 1} → statement M
-counter_value_number_spec = tie.close (tie.spec (λ c κs. search rules) (λ c κs. search rules) (λ c. handed {z = c.number.result} c.number.type-inv (rw (c.number.ensures, c.before.value_of_lem.ensures))))

@@ -4,45 +4,67 @@ mod input;
 mod output;
 
 use input::Input;
+use std::env::FillError;
+use std::fs::File;
+use std::io::Read;
+use std::process::ExitCode;
+use std::rt::{Env, Runtime};
 
-// A program can't choose its status. A failure is a line on standard error, of which ./tickclock makes a status.
-fn main() {
-    let words = os::arg_count();
-    if 2 < words {
-        output::complain(b"usage: replay [TRACE]\n");
-        return;
+// Room for any path.
+const NAME: usize = 4096;
+
+// A failure is a line on standard error, and a status of 1.
+fn main(rt: HostRuntime) -> ExitCode {
+    if has_argument(&rt, 2) {
+        output::complain(&rt, "usage: replay [TRACE]");
+        return ExitCode::FAILURE;
     }
-    if words == 2 {
-        replay_file();
+    if has_argument(&rt, 1) {
+        replay_file(&rt)
     } else {
-        replay_from(libc::STDIN_FILENO, b"standard input");
+        replay_from(&rt, &mut rt.stdin(), "standard input")
     }
 }
 
-fn replay_file() {
-    let mut name = io::buffer();
-    let length = os::arg(1, &mut name);
-    if os::errno() != 0 {
-        os::fail(b"first argument");
-        return;
+fn has_argument(rt: &impl Env, place: usize) -> bool {
+    let mut word = [0u8; NAME];
+    match rt.arg(place, &mut word) {
+        Err(FillError::NotPresent) => false,
+        _ => true,
     }
-    let fd = os::open_read(&name[..length]);
-    if fd < 0 {
-        os::fail(&name[..length]);
-        return;
+}
+
+fn replay_file(rt: &impl Runtime) -> ExitCode {
+    let mut word = [0u8; NAME];
+    let Ok(length) = rt.arg(1, &mut word) else {
+        output::complain(rt, "first argument: File name too long");
+        return ExitCode::FAILURE;
+    };
+    // std opens a file by a text, and a name may be any bytes.
+    let Ok(name) = std::str::from_utf8(&word[..length]) else {
+        output::complain(rt, "first argument: not UTF-8");
+        return ExitCode::FAILURE;
+    };
+    match File::open(rt, name) {
+        Ok(mut file) => replay_from(rt, &mut file, name),
+        Err(error) => {
+            output::fail(rt, name, error);
+            ExitCode::FAILURE
+        }
     }
-    replay_from(fd, &name[..length]);
-    libc::close(fd);
 }
 
 // Nothing is written before the whole trace has been read.
-fn replay_from(fd: i32, name: &[u8]) {
+fn replay_from(rt: &impl Runtime, from: &mut impl Read, name: &str) -> ExitCode {
     let mut trace = [0u8; input::MOST];
-    let got = input::read_trace(fd, &mut trace);
-    let Input::Read(length) = got else {
-        os::fail(name);
-        return;
-    };
-    let start: usize = 0;
-    output::write_lines(&trace[start..length]);
+    match input::read_trace(from, &mut trace) {
+        Input::Read(length) => {
+            let start: usize = 0;
+            output::write_lines(rt, &trace[start..length])
+        }
+        Input::Failed(error) => {
+            output::fail(rt, name, error);
+            ExitCode::FAILURE
+        }
+    }
 }

@@ -1,29 +1,48 @@
 // The lines of a trace, written to standard output, and what went wrong, to standard error.
 use lines::Written;
+use std::io::Error;
+use std::process::ExitCode;
 
 // Room for the lines of any trace is lent, and all of them fit.
-pub(crate) fn write_lines(trace: &[u8]) {
+pub(crate) fn write_lines(rt: &(impl Print + Eprint + Alloc), trace: &[u8]) -> ExitCode {
     let mut text = [0u8; transcript::MOST_ROOM];
     let written = transcript::replay(trace, &mut text);
     let Written::Accepted(length) = written else {
-        complain(b"the lines do not fit\n");
-        return;
+        complain(rt, "the lines do not fit");
+        return ExitCode::FAILURE;
     };
     let start: usize = 0;
-    write_text(&text[start..length]);
+    write_text(rt, &text[start..length])
 }
 
-pub(crate) fn complain(line: &[u8]) {
-    io::write_all(libc::STDERR_FILENO, line);
+// A line on standard error.
+pub(crate) fn complain(rt: &impl Eprint, line: &str) {
+    // Where standard error takes nothing either, the status tells.
+    let _ = rt.eprintln(line);
 }
 
-// The close is tested too: some file systems tell only then that the disc is full.
-fn write_text(text: &[u8]) {
-    if !io::write_all(libc::STDOUT_FILENO, text) {
-        os::fail(b"standard output");
-        return;
+// What failed, and the system's words for it.
+pub(crate) fn fail(rt: &(impl Eprint + Alloc), what: &str, error: Error) {
+    match format!(in rt.alloc(); "{what}: {error}") {
+        Ok(line) => complain(rt, without_number(line.as_str())),
+        Err(_) => complain(rt, what),
     }
-    if libc::close(libc::STDOUT_FILENO) < 0 {
-        os::fail(b"standard output");
+}
+
+// std ends an error of the system with its number in brackets.
+fn without_number(line: &str) -> &str {
+    match line.rsplit_once(" (os error ") {
+        Some((words, _)) => words,
+        None => line,
+    }
+}
+
+fn write_text(rt: &(impl Print + Eprint + Alloc), text: &[u8]) -> ExitCode {
+    match rt.write_all(text) {
+        Ok(()) => ExitCode::SUCCESS,
+        Err(error) => {
+            fail(rt, "standard output", error);
+            ExitCode::FAILURE
+        }
     }
 }

@@ -1,6 +1,11 @@
 // Replays a trace of any size from standard input, part by part, and writes its lines to standard output.
 #![tactic(auto)]
+ghost use Rattle.std.specs.Prelude.{◌≤◌, length};
+
 mod output;
+
+use std::io::{Error, Read};
+use std::process::ExitCode;
 
 // A part is as long as the longest trace of document 01, whose limit is a matter of `replay` alone.
 const PART: usize = transcript::MOST_BYTES;
@@ -8,7 +13,9 @@ const PART: usize = transcript::MOST_BYTES;
 // 64 gigabytes of trace: a program has to end.
 const MOST_PARTS: u32 = 1000000;
 
-fn main() {
+// A failure is a line on standard error, and a status of 1.
+fn main(rt: HostRuntime) -> ExitCode {
+    let mut input = rt.stdin();
     let mut trace = [0u8; PART];
     let mut text = [0u8; transcript::MOST_ROOM];
     let mut machine = machine::fresh();
@@ -16,29 +23,56 @@ fn main() {
     let mut parts: u32 = 0;
     let start: usize = 0;
     while parts < MOST_PARTS {
-        let got = io::read_full(libc::STDIN_FILENO, &mut trace);
-        if got < PART && read_fails() {
-            os::fail(b"standard input");
-            return;
+        let got = read_full(&mut input, &mut trace);
+        if got < PART {
+            if let Some(error) = read_fails(&mut input) {
+                output::fail(&rt, "standard input", error);
+                return ExitCode::FAILURE;
+            }
         }
-        let part = output::write_part(machine, first, &trace[start..got], &mut text);
+        let part = output::write_part(&rt, machine, first, &trace[start..got], &mut text);
         if !part.written {
-            return;
+            return ExitCode::FAILURE;
         }
         let next = part.machine;
         machine = next;
         first = part.first;
         if got < PART {
-            output::write_end(machine, got % 16);
-            return;
+            return status(output::write_end(&rt, machine, got % 16));
         }
         parts += 1;
     }
-    output::complain(b"more parts than this program replays\n");
+    output::complain(&rt, "more parts than this program replays");
+    ExitCode::FAILURE
+}
+
+fn status(written: bool) -> ExitCode {
+    if written {
+        ExitCode::SUCCESS
+    } else {
+        ExitCode::FAILURE
+    }
+}
+
+// Reads until the array is full, the input ends or a read fails, and tells how many bytes came.
+fn read_full(from: &mut impl Read, bytes: &mut [u8]) -> usize
+    ensures { result ≤ length bytes.new }
+{
+    let mut done: usize = 0;
+    while done < bytes.len() {
+        let Ok(more) = from.read(&mut bytes[done..]) else {
+            break;
+        };
+        if more == 0 {
+            break;
+        }
+        done += more;
+    }
+    done
 }
 
 // A full read does not tell a failed read from the end of the input; the read after it does.
-fn read_fails() -> bool {
+fn read_fails(from: &mut impl Read) -> Option<Error> {
     let mut byte = [0u8; 1];
-    libc::read(libc::STDIN_FILENO, &mut byte) < 0
+    from.read(&mut byte).err()
 }

@@ -1,6 +1,7 @@
 // The lines of a part of a trace, and those that end it, written to standard output.
 use lines::Written;
 use machine::Machine;
+use std::io::Error;
 
 #[derive(Clone, Copy)]
 pub struct After {
@@ -12,18 +13,24 @@ pub struct After {
 }
 
 // The machine after the part's records, whose lines are put into the text lent and written with one call.
-pub(crate) fn write_part(machine: Machine, first: u64, trace: &[u8], text: &mut [u8]) -> After {
+pub(crate) fn write_part(
+    rt: &(impl Print + Eprint + Alloc),
+    machine: Machine,
+    first: u64,
+    trace: &[u8],
+    text: &mut [u8],
+) -> After {
     let part = transcript::put_part(machine, first, trace, text, 0);
     let written = part.written;
     let Written::Accepted(length) = written else {
-        complain(b"the lines do not fit\n");
+        complain(rt, "the lines do not fit");
         return After {
             written: false,
             machine: machine,
             first: first,
         };
     };
-    let written = write_text(text, length);
+    let written = write_text(rt, text, length);
     let next = part.machine;
     After {
         written: written,
@@ -41,44 +48,66 @@ fn next_number(first: u64, count: usize) -> u64 {
     first + more
 }
 
-// The lines after the records': a short last record, then T and the last reading.
-pub(crate) fn write_end(machine: Machine, left: usize) {
+// The lines after the records': a short last record, then T and the last reading. Whether they were written.
+pub(crate) fn write_end(rt: &(impl Print + Eprint + Alloc), machine: Machine, left: usize) -> bool {
     if left != 0 {
-        write_tail();
+        if !write_tail(rt) {
+            return false;
+        }
     }
     let timer = machine.timer;
     if machine.ready {
-        write_last(timer.counter.cycles.0, timer.clock.last.0);
+        write_last(rt, timer.counter.cycles.0, timer.clock.last.0)
     } else {
-        write_last(0, 0);
+        write_last(rt, 0, 0)
     }
 }
 
-fn write_tail() {
+fn write_tail(rt: &(impl Print + Eprint + Alloc)) -> bool {
     let mut text = [0u8; 64];
     let length = lines::put_tail(&mut text, 0).end();
-    write_text(&text, length);
+    write_text(rt, &text, length)
 }
 
-fn write_last(cycles: u64, reading: u64) {
+fn write_last(rt: &(impl Print + Eprint + Alloc), cycles: u64, reading: u64) -> bool {
     let mut text = [0u8; 64];
     let length = lines::put_end(&mut text, 0, cycles, reading).end();
-    write_text(&text, length);
+    write_text(rt, &text, length)
 }
 
-pub(crate) fn complain(line: &[u8]) {
-    io::write_all(libc::STDERR_FILENO, line);
+// A line on standard error.
+pub(crate) fn complain(rt: &impl Eprint, line: &str) {
+    // Where standard error takes nothing either, the status tells.
+    let _ = rt.eprintln(line);
+}
+
+// What failed, and the system's words for it.
+pub(crate) fn fail(rt: &(impl Eprint + Alloc), what: &str, error: Error) {
+    match format!(in rt.alloc(); "{what}: {error}") {
+        Ok(line) => complain(rt, without_number(line.as_str())),
+        Err(_) => complain(rt, what),
+    }
+}
+
+// std ends an error of the system with its number in brackets.
+fn without_number(line: &str) -> &str {
+    match line.rsplit_once(" (os error ") {
+        Some((words, _)) => words,
+        None => line,
+    }
 }
 
 // The first so many bytes, which are there: a line's end is in the buffer that it was put in.
-fn write_text(text: &[u8], length: usize) -> bool {
+fn write_text(rt: &(impl Print + Eprint + Alloc), text: &[u8], length: usize) -> bool {
     if text.len() < length {
         return false;
     }
     let start: usize = 0;
-    if io::write_all(libc::STDOUT_FILENO, &text[start..length]) {
-        return true;
+    match rt.write_all(&text[start..length]) {
+        Ok(()) => true,
+        Err(error) => {
+            fail(rt, "standard output", error);
+            false
+        }
     }
-    os::fail(b"standard output");
-    false
 }

@@ -1,21 +1,21 @@
-// The list, read from a descriptor into one array.
+// The list, read into one array.
+use std::io::{Error, Read};
 
 #[derive(Clone, Copy)]
 pub enum Input {
     // How many bytes came before the input ended or the array was full.
     Read(usize),
-    Failed,
+    Failed(Error),
 }
 
 // A read may bring less than there is room for, as from a pipe; only one that brings nothing is the end.
-pub(crate) fn read_list(fd: i32, list: &mut [u8]) -> Input {
+pub(crate) fn read_list(from: &mut impl Read, list: &mut [u8]) -> Input {
     let mut done: usize = 0;
     while done < list.len() {
-        let got = libc::read(fd, &mut list[done..]);
-        if got < 0 {
-            return Input::Failed;
-        }
-        let more = io::count(got, &list[done..]);
+        let more = match from.read(&mut list[done..]) {
+            Ok(more) => more,
+            Err(error) => return Input::Failed(error),
+        };
         if more == 0 {
             return Input::Read(done);
         }

@@ -2,6 +2,7 @@
 use crate::build::{Built, build};
 use crate::hold::{Held, hold};
 use crate::say;
+use std::io::{Result, Write};
 
 // One byte more than a trace may have.
 const MOST: usize = transcript::MOST_BYTES + 1;
@@ -14,42 +15,54 @@ pub enum Verdict {
 }
 
 // The case whose lines begin here. What comes of it is told at once.
-pub(crate) fn judge(list: &[u8], from: usize) -> Verdict {
+pub(crate) fn judge(out: &mut impl Write, list: &[u8], from: usize) -> Result<Verdict> {
     let mut trace = [0u8; MOST];
     match build(list, from, &mut trace) {
-        Built::Size(size) => judge_trace(list, from, &trace, size),
+        Built::Size(size) => judge_trace(out, list, from, &trace, size),
         Built::Unreadable(place) => {
-            say::unreadable(list, place);
-            Verdict::Unreadable
+            say::unreadable(out, list, place)?;
+            Ok(Verdict::Unreadable)
         }
     }
 }
 
 // No contract says that the size is within the array, so it is tested, and so is the length of the text.
-fn judge_trace(list: &[u8], from: usize, trace: &[u8], size: usize) -> Verdict {
+fn judge_trace(
+    out: &mut impl Write,
+    list: &[u8],
+    from: usize,
+    trace: &[u8],
+    size: usize,
+) -> Result<Verdict> {
     if trace.len() < size {
-        return Verdict::Unreadable;
+        return Ok(Verdict::Unreadable);
     }
     let mut text = [0u8; transcript::MOST_ROOM];
     let start: usize = 0;
     let written = transcript::replay(&trace[start..size], &mut text);
-    judge_text(list, from, &text, written.end())
+    judge_text(out, list, from, &text, written.end())
 }
 
-fn judge_text(list: &[u8], from: usize, text: &[u8], length: usize) -> Verdict {
+fn judge_text(
+    out: &mut impl Write,
+    list: &[u8],
+    from: usize,
+    text: &[u8],
+    length: usize,
+) -> Result<Verdict> {
     if text.len() < length {
-        return Verdict::Differs;
+        return Ok(Verdict::Differs);
     }
     let start: usize = 0;
     let held = hold(list, from, &text[start..length]);
     match held {
         Held::To(_) => {
-            say::say(b": agrees\n");
-            Verdict::Agrees
+            say::say(out, b": agrees\n")?;
+            Ok(Verdict::Agrees)
         }
         Held::Differs(place) => {
-            say::differs(&text[start..length], place);
-            Verdict::Differs
+            say::differs(out, &text[start..length], place)?;
+            Ok(Verdict::Differs)
         }
     }
 }

@@ -12,25 +12,39 @@ mod text;
 mod words;
 
 use input::Input;
+use std::io::{BufWriter, Result, Write};
+use std::process::ExitCode;
 
 // One byte more than a list may have.
 const ROOM: usize = 65537;
 
-// A list that could not be read to its end gets no last line.
-fn main() {
+// A list that could not be read to its end gets no last line. A failure is a line on standard error, and a status of 1.
+fn main(rt: HostRuntime) -> ExitCode {
     let mut list = [0u8; ROOM];
-    let Input::Read(length) = input::read_list(libc::STDIN_FILENO, &mut list) else {
-        os::fail(b"standard input");
-        return;
+    let length = match input::read_list(&mut rt.stdin(), &mut list) {
+        Input::Read(length) => length,
+        Input::Failed(error) => {
+            say::fail(&rt, "standard input", error);
+            return ExitCode::FAILURE;
+        }
     };
-    run_list(&list, length);
+    match run_list(&rt, &list, length) {
+        Ok(()) => ExitCode::SUCCESS,
+        Err(error) => {
+            say::fail(&rt, "standard output", error);
+            ExitCode::FAILURE
+        }
+    }
 }
 
-fn run_list(list: &[u8], length: usize) {
+fn run_list(rt: &(impl Print + Alloc), list: &[u8], length: usize) -> Result<()> {
+    let mut out = BufWriter::new(rt.alloc(), std::io::writer(rt))?;
     if list.len() <= length {
-        say::say(b"the list is too long\n");
-        return;
+        say::say(&mut out, b"the list is too long\n")?;
+        return out.flush();
     }
     let start: usize = 0;
-    tally::run(&list[start..length]).say();
+    let tally = tally::run(&mut out, &list[start..length])?;
+    tally.say(&mut out)?;
+    out.flush()
 }

@@ -5,6 +5,7 @@ use crate::judge::{Verdict, judge};
 use crate::say;
 use crate::text::{more, next_line};
 use crate::words::begins_case;
+use std::io::{Result, Write};
 
 #[derive(Clone, Copy)]
 pub struct Tally {
@@ -14,13 +15,13 @@ pub struct Tally {
 }
 
 impl Tally {
-    pub(crate) fn say(self) {
-        say::count(b"", self.traces, b" traces, ");
-        say::count(b"", self.differ, b" differ");
+    pub(crate) fn say(self, out: &mut impl Write) -> Result<()> {
+        say::count(out, b"", self.traces, b" traces, ")?;
+        say::count(out, b"", self.differ, b" differ")?;
         if self.unreadable > 0 {
-            say::count(b", ", self.unreadable, b" unreadable");
+            say::count(out, b", ", self.unreadable, b" unreadable")?;
         }
-        say::say(b"\n");
+        say::say(out, b"\n")
     }
 
     fn with(self, verdict: Verdict) -> Self {
@@ -36,7 +37,7 @@ impl Tally {
 }
 
 // What stands before the first case is its heading and is not looked at.
-pub(crate) fn run(list: &[u8]) -> Tally {
+pub(crate) fn run(out: &mut impl Write, list: &[u8]) -> Result<Tally> {
     let mut tally = Tally {
         traces: 0,
         differ: 0,
@@ -45,17 +46,17 @@ pub(crate) fn run(list: &[u8]) -> Tally {
     let mut at: usize = 0;
     while at < list.len() {
         if begins_case(list, at) {
-            tally = tally.with(run_case(list, at));
+            tally = tally.with(run_case(out, list, at)?);
         }
         at = next_line(list, at);
     }
-    tally
+    Ok(tally)
 }
 
 // The line that begins a case is its name, which is told before what its lines give.
-fn run_case(list: &[u8], at: usize) -> Verdict
+fn run_case(out: &mut impl Write, list: &[u8], at: usize) -> Result<Verdict>
     requires { at < length list.now }
 {
-    say::rest(list, at);
-    judge(list, next_line(list, at))
+    say::rest(out, list, at)?;
+    judge(out, list, next_line(list, at))
 }

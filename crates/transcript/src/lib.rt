@@ -1,5 +1,6 @@
 // A trace's text: a line for each record, from any machine and number, and the lines that end it.
 #![tactic(auto)]
+
 ghost use Rattle.std.specs.Prelude.{◌≡◌, cond, ◌+◌, ◌*◌, ◌≤◌, length, ltb};
 ghost use Rattle.table.specs.declared.Outcome.TheVariants as O;
 ghost use Rattle.machine.specs.Step.{fresh_machine};
@@ -55,6 +56,7 @@ fn put_line_number(out: &mut [u8], at: usize, label: Label) -> usize
     put_label(out, at, label).end()
 }
 
+#[tactic(auto, unfolding(crate::specs::Room::rest_of))]
 fn put_refused(out: &mut [u8], at: usize, why: Reason) -> usize
     requires { at + rest_room ≤ length out.old }
     ensures text { Put out.old out.new at result (rest_of (O.Refused why)) }
@@ -64,6 +66,7 @@ fn put_refused(out: &mut [u8], at: usize, why: Reason) -> usize
     put_refusal(out, at, code).end()
 }
 
+#[tactic(auto, unfolding(crate::specs::Room::rest_of))]
 fn put_told(out: &mut [u8], at: usize, x: u64, y: u64) -> usize
     requires { at + rest_room ≤ length out.old }
     ensures text { Put out.old out.new at result (rest_of (told x y)) }
@@ -73,6 +76,7 @@ fn put_told(out: &mut [u8], at: usize, x: u64, y: u64) -> usize
 }
 
 // A thread's slot; the first for a thread past the table, of which no record asks.
+#[tactic(auto, unfolding(crate::specs::Room::slot_of))]
 fn slot(thread: u32, slots: usize) -> usize
     ensures { result ≡ slot_of thread slots }
 {
@@ -250,6 +254,7 @@ fn together(core: Core, threads: [ThreadUsage; ThreadUsage::SLOTS]) -> Machine
 
 // The lines of a part of a trace, from any machine and record number on, so that a trace of any size can be replayed
 // part by part. Bytes after the last whole record are not looked at.
+#[tactic(auto, unfolding(crate::specs::Buffer::part_of, crate::specs::Buffer::part_buffer))]
 pub fn put_part(machine: Machine, first: u64, trace: &[u8], out: &mut [u8], at: usize) -> Part
     ensures answer { result ≡ part_of machine first trace.now out.old at }
     ensures buffer { out.new ≡ part_buffer machine first trace.now out.old at }
@@ -292,6 +297,7 @@ fn lacks_lines(length: usize, at: usize, count: usize) -> bool
 }
 
 // The lines after the records'. A trace whose last record is short has bytes left over.
+#[tactic(auto, unfolding(crate::specs::Replay::last_text))]
 fn put_last(out: &mut [u8], at: usize, left: usize, cycles: u64, reading: u64) -> usize
     requires { at + last_room ≤ length out.old }
     ensures text { Put out.old out.new at result (last_text left cycles reading) }
@@ -305,6 +311,7 @@ fn put_last(out: &mut [u8], at: usize, left: usize, cycles: u64, reading: u64) -
 }
 
 // Room enough for the text of any trace of so many bytes.
+#[tactic(auto, unfolding(crate::specs::Buffer::room_for))]
 pub fn room_for(bytes: usize) -> usize
     ensures { result ≡ room_for bytes }
 {
@@ -322,6 +329,7 @@ fn if_ready(ready: bool, number: u64) -> u64
     if ready { number } else { 0 }
 }
 
+#[tactic(auto, unfolding(crate::specs::Replay::text_from))]
 fn put_whole(trace: &[u8], out: &mut [u8]) -> usize
     requires { Fits trace.now out.old }
     ensures text { Put out.old out.new 0 result (text_from (fresh_machine ThreadUsage.SLOTS) trace.now) }
@@ -340,6 +348,7 @@ fn put_whole(trace: &[u8], out: &mut [u8]) -> usize
 
 // The whole text of a trace, from the buffer's first byte on. Room is asked for the longest text that so many bytes can
 // have, so that nothing is written where it may not suffice.
+#[tactic(auto, unfolding(lines::specs::Says::written_says, crate::specs::Buffer::replay_of, crate::specs::Buffer::replayed_of))]
 pub fn replay(trace: &[u8], out: &mut [u8]) -> Written
     ensures answer { result ≡ replay_of ThreadUsage.SLOTS trace.now out.old }
     ensures buffer { out.new ≡ replayed_of ThreadUsage.SLOTS trace.now out.old }

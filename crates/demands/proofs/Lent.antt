@@ -2,7 +2,7 @@
 use Prim.Native.Nat.{ℕ}
 use mathlib.Core.List.{List}
 use mathlib.Core.Path.{◌≡◌, refl, sym, subst, ◌∙◌}
-use denote.Ref.{Bor}
+use Rattle.std.specs.Borrow.{Bor, MutBor}
 use Rattle.usage.specs.declared.ThreadUsage.{ThreadUsage}
 use Rattle.usage.specs.declared.Changed.{Changed}
 use Rattle.usage.specs.declared.Changed.TheVariants as X
@@ -35,12 +35,12 @@ forms = record {
 pub by_hand : ByHand
 by_hand = record {
   forms = forms;
-  lent = λ 𝓛 mem run κ x y cycles code flag. record { enable = refl; disable = refl; accumulate = refl; is_tracked_lem = refl; c_enable = refl; c_disable = refl; c_accumulate = refl; c_is_tracked = refl };
+  lent = λ 𝓛 mem run κ x y look cycles code flag. record { enable = refl; disable = refl; accumulate = refl; is_tracked_lem = refl; c_enable = refl; c_disable = refl; c_accumulate = refl; c_is_tracked = refl };
   reader = λ 𝓛 mem run κ trace d r item n. record { new = refl; moved = refl; next = refl; records_left_lem = refl; bytes_left = refl; first_item_lem = refl };
 }
 
 -- one outcome: the code and the record at exit, the answer of a look, a reader, and what a reader answers
-pub lent_once : {More : Type 0} (outcome : ThreadUsage → More → Outcome) → OneOutcomeLent (λ x. x.now) (λ (more : More) (x : Bor ThreadUsage) code y. LentNow (outcome x.now more) code y)
+pub lent_once : {More : Type 0} (outcome : ThreadUsage → More → Outcome) → OneOutcomeLent (λ x. x.now) (λ (more : More) (x : MutBor ThreadUsage) code y. LentNow (outcome x.now more) code y)
 lent_once outcome more x one other here there p q = (p.0 ∙ sym q.0, p.1 ∙ sym q.1)
 
 pub answered_once : {Held Answer : Type 0} (answer : Held → Answer) → OneOutcome (λ (lives : Unit {0}) (held : Held) r (exit : Unit {0}). r ≡ answer held)

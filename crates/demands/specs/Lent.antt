@@ -7,7 +7,7 @@ use prog.Memory.{Memory}
 use prog.Routine.{Routine}
 use types.Logic.{Logic}
 use contract.Monad.{Fun, fact}
-use Rattle.std.specs.Borrow.{Bor}
+use Rattle.std.specs.Borrow.{Bor, MutBor}
 use Rattle.error.specs.Numbers.{ok, number_of}
 use Rattle.usage.specs.declared.ThreadUsage.{ThreadUsage}
 use Rattle.usage.specs.declared.Changed.{Changed}
@@ -54,21 +54,21 @@ pub record LentForms : Type 0 where
   pub accumulate_outcome_lem : Gives2 usage-accumulate-outcome.Post accumulate_outcome
 
 -- the code, and the record behind the reference at exit
-abbrev pub LentNow : Outcome → ℤ → Bor ThreadUsage → Type 0
+abbrev pub LentNow : Outcome → ℤ → MutBor ThreadUsage → Type 0
 LentNow outcome code after = (code ≡ outcome.code) × (after.now ≡ outcome.usage)
 
 -- What each contract ensures, as the checker has it: in every model of its logic it is this one fact.
 module _ {M : Type 1} {𝓤 : Ura M} (𝓛 : Logic 𝓤) (mem : Memory → SProp 𝓤) (run : Routine → Fun 𝓤) (κ : Lft) where
   -- upstream's methods and C's functions, of a record lent for a change or for a look
-  pub record LentEnsures (x y : Bor ThreadUsage) (cycles : ℕ) (code : ℤ) (flag : Bool) : Type 2 where
+  pub record LentEnsures (x y : MutBor ThreadUsage) (look : Bor ThreadUsage) (cycles : ℕ) (code : ℤ) (flag : Bool) : Type 2 where
     pub enable : (method-enable.clauses 𝓛 mem run (κ, tt) (x, tt)).ensures tt code (y, tt) ≡ fact 𝓤 (LentNow (enable_outcome x.now) code y)
     pub disable : (method-disable.clauses 𝓛 mem run (κ, tt) (x, tt)).ensures tt code (y, tt) ≡ fact 𝓤 (LentNow (disable_outcome x.now) code y)
     pub accumulate : (method-accumulate.clauses 𝓛 mem run (κ, tt) (x, (cycles, tt))).ensures tt code (y, (cycles, tt)) ≡ fact 𝓤 (LentNow (accumulate_outcome x.now cycles) code y)
-    pub is_tracked_lem : (method-is-tracked.clauses 𝓛 mem run (κ, tt) (x, tt)).ensures tt flag (x, tt) ≡ fact 𝓤 (flag ≡ x.now.track_usage)
+    pub is_tracked_lem : (method-is-tracked.clauses 𝓛 mem run (κ, tt) (look, tt)).ensures tt flag (look, tt) ≡ fact 𝓤 (flag ≡ look.now.track_usage)
     pub c_enable : (c_enable.clauses 𝓛 mem run (κ, tt) (x, tt)).ensures tt code (y, tt) ≡ fact 𝓤 (LentNow (enable_outcome x.now) code y)
     pub c_disable : (c_disable.clauses 𝓛 mem run (κ, tt) (x, tt)).ensures tt code (y, tt) ≡ fact 𝓤 (LentNow (disable_outcome x.now) code y)
     pub c_accumulate : (c_accumulate.clauses 𝓛 mem run (κ, tt) (x, (cycles, tt))).ensures tt code (y, (cycles, tt)) ≡ fact 𝓤 (LentNow (accumulate_outcome x.now cycles) code y)
-    pub c_is_tracked : (c_is_tracked.clauses 𝓛 mem run (κ, tt) (x, tt)).ensures tt flag (x, tt) ≡ fact 𝓤 (flag ≡ x.now.track_usage)
+    pub c_is_tracked : (c_is_tracked.clauses 𝓛 mem run (κ, tt) (look, tt)).ensures tt flag (look, tt) ≡ fact 𝓤 (flag ≡ look.now.track_usage)
 
   -- a reader is its bytes and its place, and answers from both
   pub record ReaderEnsures (trace : Bor (List ℕ)) (d r : TraceReader) (item : Item) (n : ℕ) : Type 2 where
@@ -81,5 +81,5 @@ module _ {M : Type 1} {𝓤 : Ura M} (𝓛 : Logic 𝓤) (mem : Memory → SProp
 
 pub record ByHand : Type 2 where
   pub forms : LentForms
-  pub lent : {M : Type 1} {𝓤 : Ura M} (𝓛 : Logic 𝓤) (mem : Memory → SProp 𝓤) (run : Routine → Fun 𝓤) (κ : Lft) (x y : Bor ThreadUsage) (cycles : ℕ) (code : ℤ) (flag : Bool) → LentEnsures 𝓛 mem run κ x y cycles code flag
+  pub lent : {M : Type 1} {𝓤 : Ura M} (𝓛 : Logic 𝓤) (mem : Memory → SProp 𝓤) (run : Routine → Fun 𝓤) (κ : Lft) (x y : MutBor ThreadUsage) (look : Bor ThreadUsage) (cycles : ℕ) (code : ℤ) (flag : Bool) → LentEnsures 𝓛 mem run κ x y look cycles code flag
   pub reader : {M : Type 1} {𝓤 : Ura M} (𝓛 : Logic 𝓤) (mem : Memory → SProp 𝓤) (run : Routine → Fun 𝓤) (κ : Lft) (trace : Bor (List ℕ)) (d r : TraceReader) (item : Item) (n : ℕ) → ReaderEnsures 𝓛 mem run κ trace d r item n

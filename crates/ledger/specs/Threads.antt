@@ -1,5 +1,5 @@
 -- Believed: what an onlooker keeps of the threads, who has the accepted operations and their true times. Who ran from when to when, and who was tracked.
-use Rattle.std.specs.Prelude.{ℕ, ◌+◌, Bool, true, false, cond, not, ◌&&◌, List, [], ◌∷◌, eqb}
+use Rattle.std.specs.Prelude.{ℕ, Bool, true, false, cond, not, ◌&&◌, List, [], ◌∷◌, eqb}
 use Rattle.books.specs.declared.Operation.{Operation}
 use Rattle.books.specs.declared.Operation.TheVariants as O
 use Rattle.ledger.specs.Sums.{Stretch}

@@ -7,7 +7,6 @@ use Rattle.books.specs.declared.Operation.TheVariants as O
 use Rattle.books.specs.Running.{no_thread, past, busy}
 use Rattle.trace.specs.declared.Record.{Record}
 use Rattle.trace.specs.declared.Record.TheVariants as K
-use Rattle.trace.specs.declared.Setup.{Setup}
 use Rattle.table.specs.declared.tasks.Asked.{Asked}
 use Rattle.table.specs.declared.tasks.Task.{Task}
 use Rattle.table.specs.declared.tasks.Task.TheVariants as T

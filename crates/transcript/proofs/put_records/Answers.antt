@@ -1,5 +1,5 @@
 -- `put_records`: each arm of the loop makes the record's step, and its line has room; what is left goes on from there.
-use Rattle.std.proofs.Common.{◌≡◌, ◌∙◌, ◌*◌, ◌+◌, ◌<◌, ℕ, Bool, List, length, refl, sym, ap, arith, rules}
+use Rattle.std.proofs.Common.{◌≡◌, ◌∙◌, ℕ, Bool, List, length, refl, sym, ap, arith, rules}
 use Rattle.std.proofs.Math.ListN.{length-set}
 use Rattle.lines.proofs.Named.{of_named}
 use Rattle.lines.specs.Naming.{Named}

@@ -1,5 +1,6 @@
 // Replays a trace, from the file that the first argument names, else from standard input, and writes its lines to standard output.
 #![tactic(auto)]
+
 mod input;
 mod output;
 

@@ -4,6 +4,7 @@ use std::io::Error;
 use std::process::ExitCode;
 
 // Room for the lines of any trace is lent, and all of them fit.
+#[tactic(auto, unfolding(lines::specs::Says::written_says))]
 pub(crate) fn write_lines(rt: &(impl Print + Eprint + Alloc), trace: &[u8]) -> ExitCode {
     let mut text = [0u8; transcript::MOST_ROOM];
     let written = transcript::replay(trace, &mut text);

@@ -1,5 +1,6 @@
 // Replays a trace of any size from standard input, part by part, and writes its lines to standard output.
 #![tactic(auto)]
+
 ghost use Rattle.std.specs.Prelude.{◌≤◌, length};
 
 mod output;

@@ -1,5 +1,6 @@
 // Replays the traces of the list on standard input, and says of each whether its text is the one that the list has.
 #![tactic(auto)]
+
 mod build;
 mod hold;
 mod input;

@@ -7,7 +7,8 @@ program=$1 trace=$2
 if made=$(sh "$here/tools/built.sh" "$program") && [ -z "$(find "$here"/crates.txt "$here"/crates/*/src -newer "$made" | head -n 1)" ]; then
     exec "$here/tickclock" "$program" "$trace"
 fi
-[ -f "$trace" ] && [ -r "$trace" ] || { printf 'quick: %s: there is no such file, or it may not be read\n' "$trace" >&2; exit 1; }
+[ "$trace" != - ] || trace=/dev/stdin
+[ ! -d "$trace" ] && [ -r "$trace" ] || { printf 'quick: %s: there is no such file, or it may not be read\n' "$trace" >&2; exit 1; }
 echo "quick: running $program without its proofs, in seconds; \`make' and \`make test' prove it" >&2
 room=$(mktemp -d)
 trap 'rm -rf "$room"' EXIT

@@ -57,6 +57,6 @@ bench: kit
 	sh tools/bench.sh
 
 clean:
-	rm -rf target
+	rm -rf target crates/*/out
 
 .PHONY: all help kit cases replay replay_long firmware qemu test fuzz together bench clean

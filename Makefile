@@ -2,8 +2,8 @@
 .POSIX:
 
 all: kit
-	rt check
-	rt staticlib tickclock
+	rt all check
+	sh tools/build.sh replay replay_long tickclock_c
 	sh tests/same.sh
 
 help:
@@ -15,7 +15,7 @@ kit:
 
 # Holds the leaves to upstream's own answers and the replay of traces to 01's lines, and says what agrees.
 cases: kit
-	rt check cases trace_cases
+	sh tools/build.sh cases trace_cases
 	sh tools/run.sh cases crates/cases/stdin
 	sh tools/run.sh trace_cases < crates/trace_cases/stdin
 
@@ -24,8 +24,7 @@ cases: kit
 TRACE = traces/printed.trace
 export TRACE
 replay replay_long: kit
-	@sh tools/quick.sh $@
-	@./tickclock $@ "$$TRACE"
+	@sh tools/quick.sh $@ "$$TRACE"
 
 # The archive for Cortex-M: target/firmware/*/libtickclock.a, with the kit alone.
 firmware: kit
@@ -36,18 +35,17 @@ qemu: kit
 	sh tests/qemu.sh
 
 test: kit
-	rt fmt --check
 	sh tests/public.sh
 	sh tests/specs.sh
 	sh tests/units.sh
 	sh tests/programs.sh
-	rt ci
+	sh tests/ci.sh
 
 # Goes on comparing with the reference until so many records were compared; another SEED makes other traces.
 N = 1000000
 SEED = 100
 fuzz: kit
-	rt check replay replay_long
+	sh tools/build.sh replay replay_long
 	sh tests/reference.sh "$(N)" "$(SEED)" 10
 
 # Wrong programs in which definition, contract and code agree: a statement has to shut out each.
@@ -59,6 +57,6 @@ bench: kit
 	sh tools/bench.sh
 
 clean:
-	rm -rf target
+	rm -rf target crates/*/out
 
 .PHONY: all help kit cases replay replay_long firmware qemu test fuzz together bench clean

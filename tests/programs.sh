@@ -1,12 +1,8 @@
 #!/bin/sh
-# Tries what is built: the programs, and beside them, on another processor, the C archive.
-# Where none is proved since the last change the programs are built in haste, since `rt ci' proves them: their code is that of
-# the proved ones (tests/same.sh, which `make' runs).
+# Tries what is built and proved: the programs, and beside them, on another processor, the C archive.
 set -eu
 cd "$(dirname "$0")/.."
-for program in replay replay_long; do
-    sh tools/quick.sh "$program"
-done
+sh tools/build.sh replay replay_long
 said=$(mktemp)
 sh tests/c/check.sh > "$said" 2>&1 &
 c=$!

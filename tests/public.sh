@@ -3,7 +3,8 @@
 # outcomes (crates/demands/proofs/Outcomes.antt), with its buffer where it is lent one to write in, and that of the
 # statements over its contract which say what it gives (crates/demands/specs, gathered by the demands). What is proved by
 # hand has its one outcome in proofs/Lent.antt. docs/CONTRACTS.md has the second list as a table; `sh tests/public.sh
-# table' prints it anew. Programs have no lib.rt and nothing that others can call; docs/CONTRACTS.md lists them.
+# table' prints it anew. Programs have no lib.rt and nothing that others can call; docs/CONTRACTS.md lists them. No crate
+# can stand on an archive for C: its exports are held to the functions of the same names in the library that they call.
 set -eu
 LC_ALL=C
 export LC_ALL
@@ -25,8 +26,8 @@ for name in $statements; do
     file=crates/demands/specs/$name.antt
     head -n 1 "$file" | grep -q '^-- Believed: ' || complain "$file is not marked Believed"
     gathered=0
-    for statement in $(sed -n "s/^use Rattle·demands·specs\.specs\.$name\.{\(.*\)}/\1/p" crates/demands/specs/Demand[123].antt); do
-        ! grep -q "^  pub [a-z-]* : $statement\$" crates/demands/specs/Demand[123].antt || gathered=1
+    for statement in $(sed -n "s/^use Rattle\.demands\.specs\.$name\.{\(.*\)}/\1/p" crates/demands/specs/Demand[123].antt); do
+        ! grep -q "^  pub [a-z_]* : $statement\$" crates/demands/specs/Demand[123].antt || gathered=1
     done
     [ "$gathered" = 1 ] || complain "$file: no demand gathers it"
 done
@@ -36,7 +37,7 @@ done
 stated() {
     for statement in $statements; do
         file=crates/demands/specs/$statement.antt
-        as=$(sed -n "s/^use Rattle·$1\.proofs\.$2\.Reads as //p" "$file")
+        as=$(sed -n "s/^use Rattle\.$1\.proofs\.$2\.Reads as //p" "$file")
         [ -n "$as" ] || continue
         if grep -Eq "(Every|Gives[1-4]?|Refused|\.now\)) $as\.Post|(Exports|ExportsValue) .* $as\.Post( ×|\$)" "$file"; then
             echo "$statement"
@@ -45,9 +46,34 @@ stated() {
     done
 }
 
+# The public functions of a source file, each as one line: what it takes and gives, and its clauses, without spaces.
+signatures() {
+    awk '
+        /^pub (extern "C" )?fn / { sub(/extern "C" /, ""); text = ""; open = 1 }
+        open && /^\{/ { gsub(/,\)/, ")", text); print text; open = 0 }
+        open { gsub(/[ \t]/, ""); text = text $0 }
+    ' "$1" | sort
+}
+
+exports=0
+for archive in $(sed -n 's/^\([a-z0-9_]*\) staticlib:.*/\1/p' crates.txt); do
+    library=${archive%_c}
+    for file in crates/"$archive"/src/*.rt crates/"$library"/src/*.rt; do
+        module=$(basename "$file")
+        grep -q "^pub mod ${module%.rt};" "crates/$library/src/lib.rt" || continue
+        [ -e "crates/$archive/src/$module" ] && [ -e "crates/$library/src/$module" ] || { complain "$file has no fellow in $archive or $library"; continue; }
+        signatures "crates/$library/src/$module" > "$work/ours"
+        signatures "crates/$archive/src/$module" > "$work/theirs"
+        diff "$work/ours" "$work/theirs" >&2 || complain "crates/$archive/src/$module exports something else than crates/$library/src/$module has"
+        [ "$(grep -c '^#\[unsafe(no_mangle)\]$' "crates/$archive/src/$module")" = "$(wc -l < "$work/theirs")" ] || complain "crates/$archive/src/$module has a function that is not exported"
+        case $file in crates/"$archive"/*) exports=$((exports + $(wc -l < "$work/theirs"))) ;; esac
+    done
+done
+
 for lib in crates/*/src/lib.rt; do
     src=$(dirname "$lib")
     crate=$(basename "$(dirname "$src")")
+    ! grep -q "^$crate staticlib:" crates.txt || continue
     for file in "$src"/*.rt; do
         module=$(basename "$file" .rt)
         # of what a private module has only the methods are public
@@ -74,13 +100,13 @@ for lib in crates/*/src/lib.rt; do
             count=$((count + 1))
             [ "$asked" = 0 ] || complain "$file: $name demands something of its caller"
             [ "$promised" = 1 ] || complain "$file: $name has no ensures"
-            as=$(sed -n "s/^use Rattle·$crate\.proofs\.$name as //p" "$by_hand")
+            as=$(sed -n "s/^use Rattle\.$crate\.specs\.contracts\.$name as //p" "$by_hand")
             if [ -n "$as" ]; then
-                grep -q " $as\.clauses " "$by_hand" || complain "$by_hand lacks $crate $name"
+                grep -q "[( ]$as\.clauses " "$by_hand" || complain "$by_hand lacks $crate $name"
                 echo "Lent $crate $name" >> "$work/stated"
                 continue
             fi
-            as=$(sed -n "s/^use Rattle·$crate\.proofs\.$name\.Reads as //p" "$outcomes")
+            as=$(sed -n "s/^use Rattle\.$crate\.proofs\.$name\.Reads as //p" "$outcomes")
             if [ "$lent" = 1 ]; then outcome='OneOutcomeLent (.*)'; else outcome=OneOutcome; fi
             [ -n "$as" ] && grep -q "$outcome $as\.Post" "$outcomes" || complain "$outcomes lacks $crate $name"
             statement=$(stated "$crate" "$name")
@@ -111,4 +137,4 @@ fi
 sed -n '/^| statements | crate | functions |$/,/^$/p' "$contracts" | sed '/^$/d' > "$work/written"
 cmp -s "$work/table" "$work/written" || complain "$contracts: its table of statements is not what \`sh tests/public.sh table' prints"
 [ "$bad" = 0 ] || exit 1
-echo "public: $count functions, each with a contract that demands nothing, one outcome and a statement that says what it gives"
+echo "public: $count functions, each with a contract that demands nothing, one outcome and a statement that says what it gives; $exports exports with the clauses of theirs"

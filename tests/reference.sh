@@ -7,7 +7,7 @@ cd "$(dirname "$0")/.."
 records=${1:-1} seed=${2:-1} scale=${3:-1}
 command -v cargo > /dev/null || { echo 'reference: skipped, since there is no cargo here'; exit 0; }
 for program in replay replay_long; do
-    sh tools/built.sh "$program" > /dev/null || { echo "reference: $program is not built; sh tools/quick.sh $program builds it"; exit 1; }
+    sh tools/built.sh "$program" > /dev/null || { echo "reference: $program is not built; sh tools/build.sh $program builds it"; exit 1; }
 done
 replay=$(sh tools/built.sh replay) replay_long=$(sh tools/built.sh replay_long)
 room=$(mktemp -d)
@@ -17,11 +17,12 @@ for step in 'build --release' test; do
 done
 made=target/reference/release
 
-# What stands before a program of the kit's: on a machine that is no x86-64, the kit's emulator. Asked once, for speed.
+# What stands before a program of the kit's: on a machine that is no x86-64, an emulator (tools/run.sh). Asked once, for speed.
 before=
 if [ "$(uname -m)" != x86_64 ]; then
+    emulator=$(command -v qemu-x86_64) || { echo "reference: this is a $(uname -m), the programs are for x86-64, and there is no qemu-x86_64 here"; exit 1; }
     tools=$(sh tools/kit.sh)
-    before="$tools/bin/qemu-x86_64 $tools/lib/ld-linux-x86-64.so.2 --library-path $tools/lib"
+    before="$emulator $tools/lib/ld-linux-x86-64.so.2 --library-path $tools/lib"
 fi
 
 # differ NAME: tells the first line that differs, keeps the trace, and ends.

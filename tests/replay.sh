@@ -1,10 +1,10 @@
 #!/bin/sh
-# Runs the programs replay and replay_long as they were built, proved or in haste, and holds what they write to document 01.
+# Runs the programs replay and replay_long as they were proved and built, and holds what they write to document 01.
 set -eu
 cd "$(dirname "$0")/.."
 root=$(pwd)
 for program in replay replay_long; do
-    sh tools/built.sh "$program" > /dev/null || { echo "replay: $program is not built; sh tools/quick.sh $program builds it"; exit 1; }
+    sh tools/built.sh "$program" > /dev/null || { echo "replay: $program is not built; sh tools/build.sh $program builds it"; exit 1; }
 done
 room=$(mktemp -d)
 trap 'rm -rf "$room"' EXIT

@@ -1,18 +1,19 @@
 #!/bin/sh
-# The programs that are built in haste, which `make test' tries, have the code and the data of the proved ones.
+# The programs tried without their proofs, which `make replay' may show, print what the proved ones print.
 set -eu
 cd "$(dirname "$0")/.."
-command -v readelf > /dev/null || { echo 'same: skipped, since there is no readelf here'; exit 0; }
 room=$(mktemp -d)
 trap 'rm -rf "$room"' EXIT
 for program in replay replay_long; do
-    [ -x "target/bin/$program" ] || { echo "same: there is no target/bin/$program; rt check $program builds it"; exit 1; }
-    sh tools/quick.sh "$program" "$room/quick"
-    for part in .text .rodata .data; do
-        readelf -x "$part" "target/bin/$program" > "$room/proved.part"
-        readelf -x "$part" "$room/quick" > "$room/quick.part"
-        [ -s "$room/proved.part" ] || { echo "same: $program has no $part"; exit 1; }
-        cmp "$room/proved.part" "$room/quick.part" || { echo "same: $program built in haste has another $part than the proved one"; exit 1; }
+    made=$(sh tools/built.sh "$program") || { echo "same: $program is not built; sh tools/build.sh $program builds it"; exit 1; }
+    mkdir "$room/$program"
+    traces=0
+    for trace in traces/*.trace crates/replay/stdin; do
+        traces=$((traces + 1))
+        cp "$trace" "$room/$program/$traces"
+        sh tools/run.sh "$made" < "$trace" > "$room/$program/$traces.stdout"
     done
+    # A trial is built once and run on each trace, by an interpreter and compiled with checks.
+    (cd "crates/$program" && rt try --cases "$room/$program") > "$room/said" 2>&1 || { cat "$room/said"; echo "same: $program tried without its proofs prints something else"; exit 1; }
 done
-echo 'same: replay and replay_long built in haste have the code and the data of the proved ones'
+echo "same: replay and replay_long, tried without their proofs, print what the proved ones print, on $traces traces"

@@ -3,7 +3,7 @@
 set -eu
 cd "$(dirname "$0")/.."
 root=$(pwd)
-sh tools/built.sh replay > /dev/null && sh tools/built.sh replay_long > /dev/null || { echo "tickclock: make replay replay_long builds what is tried here"; exit 1; }
+sh tools/built.sh replay > /dev/null && sh tools/built.sh replay_long > /dev/null || { echo "tickclock: sh tools/build.sh replay replay_long builds what is tried here"; exit 1; }
 room=$(mktemp -d)
 trap 'rm -rf "$room"' EXIT
 printed=$root/traces/printed.trace
@@ -116,16 +116,16 @@ says 'help to a full device' 1 "tickclock: standard output can't be written" ful
 # --- not built, and built in seconds ---
 copy=$room/copy
 mkdir "$copy"
-cp -R Makefile README.md crates crates.txt tickclock tools traces "$copy/"
-not_built="is not built: \`make replay' builds it in seconds, \`make' with its proofs"
+sh tools/copy.sh "$copy" Makefile README.md crates crates.txt tickclock tools traces
+not_built="is not built: \`make' proves and builds it; \`make replay TRACE=FILE' replays a trace in seconds, without its proofs"
 says 'not built' 2 "tickclock: replay $not_built" "$copy/tickclock" replay "$printed"
-mkdir -p "$copy/target/bin"
+mkdir "$copy/crates/replay/out"
 # An interpreter that is not there is what a loader that is not there looks like.
-echo '#!/nowhere/loader' > "$copy/target/bin/replay"
-chmod +x "$copy/target/bin/replay"
-says 'built for another machine' 2 "tickclock: $copy/target/bin/replay can't be run here: it is for Linux on x86-64 with glibc, in a folder from which programs may run" \
+echo '#!/nowhere/loader' > "$copy/crates/replay/out/replay"
+chmod +x "$copy/crates/replay/out/replay"
+says 'built for another machine' 2 "tickclock: $copy/crates/replay/out/replay can't be run here: it is for Linux on x86-64 with glibc, in a folder from which programs may run" \
     "$copy/tickclock" replay "$printed"
-rm -r "$copy/target"
+rm -r "$copy/crates/replay/out"
 # With no kit: the usual folders alone, unless it is in one of them.
 if ! PATH=/usr/bin:/bin command -v rt > /dev/null; then
     no_kit="rt, the Rattle kit's command, is not on the PATH: README says under \"What it needs\" where the kit comes from"
@@ -139,16 +139,26 @@ if ! PATH=/usr/bin:/bin command -v rt > /dev/null; then
         held "make $target without the kit"
     done
 fi
-quick="quick: building replay without its proofs, in seconds; \`make' and \`make test' prove it"
+quick="quick: running replay without its proofs, in seconds; \`make' and \`make test' prove it"
 status=0 wanted=0
 make -C "$copy" --no-print-directory replay > "$room/out" 2> "$room/said" || status=$?
 { cat "$golden"; echo "$quick"; } > "$room/want"
 cat "$room/out" "$room/said" > "$room/both"
 mv "$room/both" "$room/said"
 held 'make replay in a fresh copy'
-lines 'make replay once more' make -C "$copy" --no-print-directory replay
 cp "$printed" "$copy/a \`b\` 'c'"
-lines 'make replay with an odd name' make -C "$copy" --no-print-directory replay "TRACE=a \`b\` 'c'"
+{ cat "$golden"; echo "$quick"; } > "$room/want"
+status=0 wanted=0
+make -C "$copy" --no-print-directory replay "TRACE=a \`b\` 'c'" > "$room/out" 2> "$room/said" || status=$?
+cat "$room/out" "$room/said" > "$room/both"
+mv "$room/both" "$room/said"
+held 'make replay with an odd name'
+# Where it is built, and newer than the sources, that is what runs.
+mkdir "$copy/crates/replay/out"
+cp crates/replay/out/replay "$copy/crates/replay/out/"
+touch "$copy/crates/replay/out/replay"
+lines 'make replay once it is built' make -C "$copy" --no-print-directory replay
+lines 'make replay of what is built with an odd name' make -C "$copy" --no-print-directory replay "TRACE=a \`b\` 'c'"
 
 # --- make help tells of every target ---
 for target in $(sed -n 's/^\.PHONY: //p' Makefile); do

@@ -27,7 +27,7 @@ replace() {
     cat "$work/replaced" > "$1"
 }
 
-rt check demands > "$work/log" 2>&1 || {
+(cd crates/demands && rt check) > "$work/log" 2>&1 || {
     cat "$work/log" >&2
     exit 2
 }
@@ -39,7 +39,7 @@ for name; do
     copy=$work/copy
     rm -rf "$copy"
     mkdir "$copy"
-    cp -r crates crates.txt target "$copy"
+    sh tools/copy.sh "$copy" crates crates.txt
     falls='' file='' after='' old=''
     while IFS= read -r line; do
         case $line in

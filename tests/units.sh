@@ -5,10 +5,12 @@ root=$(cd "$(dirname "$0")/.." && pwd)
 room=$(mktemp -d)
 trap 'rm -rf "$room"' EXIT
 mkdir -p "$room/crates/caller/src"
-cp -R "$root/crates/units" "$room/crates/units"
+sh "$root/tools/copy.sh" "$room" crates/units
 printf 'units:\ncaller: units\n' > "$room/crates.txt"
 write() {
     cat > "$room/crates/caller/src/lib.rt" <<END
+#![tactic(auto)]
+
 use units::Cycles;
 use units::Ticks;
 
@@ -21,13 +23,15 @@ pub fn caller(n: u64) -> Cycles {
 }
 END
 }
-cd "$room"
+caller() {
+    (cd "$room/crates/caller" && rt check) > "$room/said" 2>&1
+}
 write Cycles
-rt check caller > said 2>&1 || { cat said; echo "units: a caller that mixes nothing was refused"; exit 1; }
+caller || { cat "$room/said"; echo "units: a caller that mixes nothing was refused"; exit 1; }
 write Ticks
-if rt check caller > said 2>&1; then
+if caller; then
     echo "units: ticks were taken for cycles"
     exit 1
 fi
-grep -q 'mismatched-types' said || { cat said; echo "units: refused, but not by the types"; exit 1; }
+grep -q 'mismatched-types' "$room/said" || { cat "$room/said"; echo "units: refused, but not by the types"; exit 1; }
 echo "units: ticks are not taken for cycles"

@@ -18,10 +18,11 @@ sh tools/native.sh replay_long "$bench/replay_long"
 
 # The same program for 64 threads: one number changed in a copy, in which every crate of it is proved again.
 echo 'bench: proving it all again for 64 threads, which takes most of the time'
-copy=$bench/threads64
-rm -rf "$copy"
-mkdir "$copy"
-cp -R crates crates.txt tools "$copy/"
+# The copy stands outside the checkout, where `rt ci' takes no sources but the crates' own.
+copy=$(mktemp -d)
+trap 'rm -rf "$copy"' EXIT
+trap 'exit 130' INT TERM HUP
+sh tools/copy.sh "$copy" crates crates.txt tools
 sed 's/^\(    pub const SLOTS: usize =\) 16;/\1 64;/' crates/usage/src/lib.rt > "$copy/crates/usage/src/lib.rt"
 ! cmp -s crates/usage/src/lib.rt "$copy/crates/usage/src/lib.rt" || { echo 'bench: no SLOTS of 16 in crates/usage/src/lib.rt' >&2; exit 1; }
 sh "$copy/tools/native.sh" replay_long "$bench/replay_long_64"

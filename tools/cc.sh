@@ -1,5 +1,5 @@
 #!/bin/sh
-# cc.sh OUT [OPTION..] SOURCE..: compiles C for x86-64 and links it with the proved archive of `rt staticlib tickclock`; tools/run.sh runs it.
+# cc.sh OUT [OPTION..] SOURCE..: compiles C for x86-64 and links it with the proved archive (tools/build.sh tickclock_c); tools/run.sh runs it.
 set -eu
 here=$(cd "$(dirname "$0")" && pwd)
 archive=$here/../target/staticlib/libtickclock.a

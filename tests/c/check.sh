@@ -6,7 +6,7 @@ room=$(mktemp -d)
 trap 'rm -rf "$room"' EXIT
 strict='-Wall -Wextra -pedantic -Werror'
 
-rt staticlib tickclock > "$room/said" 2>&1 || { cat "$room/said"; exit 1; }
+sh tools/build.sh tickclock_c
 
 # the headers alone, as C99 and as C++; README's example; and the example driver, which a Cortex-M runs (tests/qemu.sh)
 printf '#include "tickclock.h"\n' > "$room/alone.c"
@@ -26,7 +26,7 @@ fi
 
 # what the header declares is what the source exports
 grep -oh '\b\(systick\|usage\|counter\)_[a-z_0-9]*(' include/tickclock.h | tr -d '(' | sort -u > "$room/declared"
-grep -h -A1 '^#\[no_mangle\]' crates/tickclock/src/*.rt | grep -o 'fn [a-z_0-9]*' | sed 's/fn //' | sort -u > "$room/exported"
+grep -h -A1 '^#\[unsafe(no_mangle)\]' crates/tickclock_c/src/*.rt | grep -o 'fn [a-z_0-9]*' | sed 's/fn //' | sort -u > "$room/exported"
 diff "$room/declared" "$room/exported" || { echo "c: the header and the exports differ"; exit 1; }
 
 sh tools/cc.sh "$room/leaves" tests/c/leaves.c

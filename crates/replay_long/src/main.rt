@@ -14,7 +14,8 @@ const PART: usize = transcript::MOST_BYTES;
 // 64 gigabytes of trace: a program has to end.
 const MOST_PARTS: u32 = 1000000;
 
-// A failure is a line on standard error, and a status of 1.
+// A failure is a line on standard error, of which ./tickclock makes a status. Of its own the program has one, 1, where
+// something could not be read or written.
 fn main(rt: HostRuntime) -> ExitCode {
     let mut input = rt.stdin();
     let mut trace = [0u8; PART];
@@ -44,7 +45,7 @@ fn main(rt: HostRuntime) -> ExitCode {
         parts += 1;
     }
     output::complain(&rt, "more parts than this program replays");
-    ExitCode::FAILURE
+    ExitCode::SUCCESS
 }
 
 fn status(written: bool) -> ExitCode {

@@ -13,7 +13,7 @@ mod text;
 mod words;
 
 use input::Input;
-use std::io::{BufWriter, Result, Write};
+use std::io::Result;
 use std::process::ExitCode;
 
 // One byte more than a list may have.
@@ -38,14 +38,12 @@ fn main(rt: HostRuntime) -> ExitCode {
     }
 }
 
-fn run_list(rt: &(impl Print + Alloc), list: &[u8], length: usize) -> Result<()> {
-    let mut out = BufWriter::new(rt.alloc(), std::io::writer(rt))?;
+fn run_list(rt: &impl Print, list: &[u8], length: usize) -> Result<()> {
+    let mut out = std::io::writer(rt);
     if list.len() <= length {
-        say::say(&mut out, b"the list is too long\n")?;
-        return out.flush();
+        return say::say(&mut out, b"the list is too long\n");
     }
     let start: usize = 0;
     let tally = tally::run(&mut out, &list[start..length])?;
-    tally.say(&mut out)?;
-    out.flush()
+    tally.say(&mut out)
 }

@@ -3,6 +3,7 @@ use Rattle.std.proofs.Common.{◌≡◌, ◌∙◌, ℕ, Bool, List, length, ref
 use Rattle.std.proofs.Math.ListN.{length-set}
 use Rattle.lines.proofs.Named.{of_named}
 use Rattle.lines.specs.Naming.{Named}
+use Rattle.usage.specs.declared.TheConstants.ThreadUsage.{SLOTS}
 use Rattle.usage.specs.declared.ThreadUsage.{ThreadUsage}
 use Rattle.trace.specs.declared.Decoded.{Decoded}
 use Rattle.trace.specs.Decode.{decode_of}
@@ -24,7 +25,7 @@ turn {core = core} going n made = record { slots = _; broken = _; table = going.
 
 pub loop-left-init : goal.loop-left-init
 loop-left-init c =
-    let n : length c.args.machine.ledger.threads ≡ 16 = search rules in
+    let n : length c.args.machine.ledger.threads ≡ SLOTS = search rules in
     let named : Named c.of-label.result c.args.first = rw c.of-label.ensures (of_named c.args.first) in
     let first = counts named in
     record {
@@ -52,7 +53,7 @@ put_refused-end-requires c = rest_fits c.loop-left.invariant c.loop-left-test.tr
 
 pub loop-left-preserved-in-Refused : goal.loop-left-preserved-in-Refused
 loop-left-preserved-in-Refused c =
-    let n : length c.args.machine.ledger.threads ≡ 16 = search rules in
+    let n : length c.args.machine.ledger.threads ≡ SLOTS = search rules in
     let turned = turn c.loop-left.invariant n c.change_at-change.ensures in
     goes_on c.loop-left.invariant c.loop-left-test.true c.put_line_number-second.ensures
     (refused turned c.in-Refused.is)
@@ -63,7 +64,7 @@ put_told-end-requires c = rest_fits c.loop-left.invariant c.loop-left-test.true 
 
 pub loop-left-preserved-in-Ran : goal.loop-left-preserved-in-Ran
 loop-left-preserved-in-Ran c =
-    let n : length c.args.machine.ledger.threads ≡ 16 = search rules in
+    let n : length c.args.machine.ledger.threads ≡ SLOTS = search rules in
     let turned = turn c.loop-left.invariant n c.change_at-change.ensures in
     goes_on c.loop-left.invariant c.loop-left-test.true c.put_line_number-second.ensures
     (ran turned c.in-Ran.is c.timer_of-after.ensures)
@@ -74,7 +75,7 @@ put_told-end-requires-in-Told c = rest_fits c.loop-left.invariant c.loop-left-te
 
 pub loop-left-preserved-in-Told : goal.loop-left-preserved-in-Told
 loop-left-preserved-in-Told c =
-    let n : length c.args.machine.ledger.threads ≡ 16 = search rules in
+    let n : length c.args.machine.ledger.threads ≡ SLOTS = search rules in
     let turned = turn c.loop-left.invariant n c.change_at-change.ensures in
     goes_on c.loop-left.invariant c.loop-left-test.true c.put_line_number-second.ensures
     (told turned c.in-Told.is c.timer_afresh-after.ensures)
@@ -97,7 +98,7 @@ put_told-end-requires-in-Accepted c = rest_fits c.loop-left.invariant c.loop-lef
 
 pub loop-left-preserved-in-Accepted : goal.loop-left-preserved-in-Accepted
 loop-left-preserved-in-Accepted c =
-    let n : length c.args.machine.ledger.threads ≡ 16 = search rules in
+    let n : length c.args.machine.ledger.threads ≡ SLOTS = search rules in
     let turned = turn c.loop-left.invariant n c.change_at-change.ensures in
     goes_on c.loop-left.invariant c.loop-left-test.true c.put_line_number-second.ensures
     (entered turned (omega arith) c.in-Enter.is c.timer_afresh-after-in-Enter.ensures c.concerned.ensures c.slot-k.ensures c.enter-entered.ensures c.in-Accepted.is c.books_afresh-booked.ensures c.usage_afresh-changed.ensures)
@@ -108,7 +109,7 @@ put_refused-end-requires-in-Refused-entered c = rest_fits c.loop-left.invariant 
 
 pub loop-left-preserved-in-Refused-entered : goal.loop-left-preserved-in-Refused-entered
 loop-left-preserved-in-Refused-entered c =
-    let n : length c.args.machine.ledger.threads ≡ 16 = search rules in
+    let n : length c.args.machine.ledger.threads ≡ SLOTS = search rules in
     let turned = turn c.loop-left.invariant n c.change_at-change.ensures in
     goes_on c.loop-left.invariant c.loop-left-test.true c.put_line_number-second.ensures
     (not_entered turned (omega arith) c.in-Enter.is c.timer_afresh-after-in-Enter.ensures c.concerned.ensures c.slot-k.ensures c.enter-entered.ensures c.in-Refused-entered.is)
@@ -125,7 +126,7 @@ put_told-end-requires-in-Report c = rest_fits c.loop-left.invariant c.loop-left-
 
 pub loop-left-preserved-in-Report : goal.loop-left-preserved-in-Report
 loop-left-preserved-in-Report c =
-    let n : length c.args.machine.ledger.threads ≡ 16 = search rules in
+    let n : length c.args.machine.ledger.threads ≡ SLOTS = search rules in
     let turned = turn c.loop-left.invariant n c.change_at-change.ensures in
     goes_on c.loop-left.invariant c.loop-left-test.true c.put_line_number-second.ensures
     (reported turned c.in-Report.is c.slot-k-in-Report.ensures (c.report_values-told.ensures ∙ ap report_tells c.of.ensures))
@@ -136,7 +137,7 @@ put_told-end-requires-in-Fresh c = rest_fits c.loop-left.invariant c.loop-left-t
 
 pub loop-left-preserved : goal.loop-left-preserved
 loop-left-preserved c =
-    let n : length c.args.machine.ledger.threads ≡ 16 = search rules in
+    let n : length c.args.machine.ledger.threads ≡ SLOTS = search rules in
     let turned = turn c.loop-left.invariant n c.change_at-change.ensures in
     goes_on c.loop-left.invariant c.loop-left-test.true c.put_line_number-second.ensures
     (all_fresh turned turned.table c.in-Fresh.is c.timer_afresh-after-in-Fresh.ensures c.nothing_booked-books.ensures c.new_idle-threads.ensures)

@@ -1,9 +1,9 @@
 #!/bin/sh
 # Every public function of a library has an ensures, demands nothing of its caller, and stands in two lists: that of
 # outcomes (crates/demands/proofs/Outcomes.antt), with its buffer where it is lent one to write in, and that of the
-# statements over its contract which say what it gives (crates/demands/specs, gathered by the demands). What is proved by
-# hand has its one outcome in proofs/Lent.antt. docs/CONTRACTS.md has the second list as a table; `sh tests/public.sh
-# table' prints it anew. Programs have no lib.rt and nothing that others can call; docs/CONTRACTS.md lists them. No crate
+# statements over its contract which say what it gives (crates/demands/specs, gathered by the demands). The methods
+# on a lent record and of a lent reader have their one outcome in proofs/Lent.antt. docs/CONTRACTS.md has the second list
+# as a table; `sh tests/public.sh table' prints it anew. Programs have no lib.rt and nothing that others can call; docs/CONTRACTS.md lists them. No crate
 # can stand on an archive for C: its exports are held to the functions of the same names in the library that they call.
 set -eu
 LC_ALL=C

@@ -1,4 +1,4 @@
--- The contracts that are proved by hand ensure what Lent has, and that is one outcome.
+-- The contracts of what is lent as a record ensure what Lent has, and that is one outcome.
 use Prim.Native.Nat.{ℕ}
 use mathlib.Core.List.{List}
 use mathlib.Core.Path.{◌≡◌, refl, sym, subst, ◌∙◌}

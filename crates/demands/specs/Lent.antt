@@ -1,4 +1,4 @@
--- Believed: what is proved by hand. A thread record that is lent, in Rattle and from C, is changed as by value; a reader holds a lent trace and its place.
+-- Believed: what is lent as a record. A thread record, in Rattle and from C, is changed as by value; a reader holds a lent trace and its place.
 use Rattle.std.specs.Prelude.{ℕ, List, ◌≡◌, Bool, ℤ}
 use seplogic.Ra.Ura.{Ura}
 use base.Logic.{SProp}

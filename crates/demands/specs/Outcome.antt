@@ -1,4 +1,4 @@
--- Evidence: one outcome. Whatever a contract allows for the same arguments is one and the same answer; a list has every public function (crates/demands/proofs, Outcomes.antt, and Lent.antt for what is proved by hand).
+-- Evidence: one outcome. Whatever a contract allows for the same arguments is one and the same answer; a list has every public function (crates/demands/proofs, Outcomes.antt, and Lent.antt for what is lent as a record).
 use Rattle.std.specs.Prelude.{◌≡◌}
 
 -- a contract says of lifetimes, arguments, an answer and the arguments at exit whether they are allowed

@@ -62,7 +62,11 @@ for archive in $(sed -n 's/^\([a-z0-9_]*\) staticlib:.*/\1/p' crates.txt); do
     library=${archive%_c}
     for file in crates/"$archive"/src/*.rt crates/"$library"/src/*.rt; do
         module=$(basename "$file")
-        grep -q "^pub mod ${module%.rt};" "crates/$library/src/lib.rt" || continue
+        # What the library keeps to itself is not exported; all that the archive has is.
+        case $file in
+        crates/"$library"/*) grep -q "^pub mod ${module%.rt};" "crates/$library/src/lib.rt" || continue ;;
+        */lib.rt) continue ;;
+        esac
         [ -e "crates/$archive/src/$module" ] && [ -e "crates/$library/src/$module" ] || { complain "$file has no fellow in $archive or $library"; continue; }
         signatures "crates/$library/src/$module" > "$work/ours"
         signatures "crates/$archive/src/$module" > "$work/theirs"
@@ -70,6 +74,8 @@ for archive in $(sed -n 's/^\([a-z0-9_]*\) staticlib:.*/\1/p' crates.txt); do
         [ "$(grep -c '^#\[unsafe(no_mangle)\]$' "crates/$archive/src/$module")" = "$(grep -c '^pubfn' "$work/theirs")" ] || complain "crates/$archive/src/$module has a function that is not exported"
         case $file in crates/"$archive"/*) exports=$((exports + $(grep -c '^pubfn' "$work/theirs"))) ;; esac
     done
+    marks=$(cat crates/"$archive"/src/*.rt | grep -c 'no_mangle')
+    [ "$marks" = "$exports" ] || complain "crates/$archive/src exports $marks functions, and $exports of them are held to $library's"
 done
 
 for lib in crates/*/src/lib.rt; do

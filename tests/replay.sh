@@ -38,6 +38,13 @@ run() {
     echo "$status" > "$room/status"
 }
 
+# kept COMMAND..: a run whose output goes elsewhere.
+kept() {
+    status=0
+    "$@" || status=$?
+    echo "$status" > "$room/status"
+}
+
 # lines NAME FILE: the last run wrote that file, said nothing and ended with 0.
 lines() {
     bad=0
@@ -51,13 +58,15 @@ lines() {
     held "$1" "$bad"
 }
 
-# refusal NAME LINE: the last run wrote nothing and said that line.
+# refusal NAME LINE STATUS: the last run wrote nothing, said that line and ended with that status.
 refusal() {
     bad=0
     printf '%s\n' "$2" > "$room/want"
     {
         diff "$room/want" "$room/said" || bad=1
         [ ! -s "$room/out" ] || { echo 'something was written'; bad=1; }
+        read -r status < "$room/status"
+        [ "$status" = "$3" ] || { echo "status $status"; bad=1; }
     } > "$room/differ"
     held "$1" "$bad"
 }
@@ -174,32 +183,32 @@ lines '255 counted wraps' "$room/want-lines"
 # --- what can't be read or written is said, and nothing else is written ---
 missing=$room/missing
 run "$missing"
-refusal 'no such file' "$missing: No such file or directory"
+refusal 'no such file' "$missing: No such file or directory" 1
 run "$room"
-refusal 'a directory' "$room: Is a directory"
+refusal 'a directory' "$room: Is a directory" 1
 run < "$room"
-refusal 'a directory as standard input' 'standard input: Is a directory'
+refusal 'a directory as standard input' 'standard input: Is a directory' 1
 run ''
-refusal 'an empty name' ': No such file or directory'
+refusal 'an empty name' ': No such file or directory' 1
 run "$printed/x"
-refusal 'a file taken for a directory' "$printed/x: Not a directory"
+refusal 'a file taken for a directory' "$printed/x: Not a directory" 1
 run "$(awk 'BEGIN { for (i = 0; i < 5000; i++) printf "a" }')"
-refusal 'a name that is too long' 'first argument: File name too long'
+refusal 'a name that is too long' 'first argument: File name too long' 0
 run <&-
-refusal 'standard input closed' 'standard input: Bad file descriptor'
+refusal 'standard input closed' 'standard input: Bad file descriptor' 1
 run "$printed" "$printed"
-refusal 'two arguments' 'usage: replay [TRACE]'
+refusal 'two arguments' 'usage: replay [TRACE]' 0
 : > "$room/out"
-sh tools/run.sh replay "$printed" 2> "$room/said" > /dev/full || true
-refusal 'a full device' 'standard output: No space left on device'
-sh tools/run.sh replay "$printed" 2> "$room/said" >&- || true
-refusal 'standard output closed' 'standard output: Bad file descriptor'
-(trap '' PIPE; sleep 1; sh tools/run.sh replay "$printed" 2> "$room/said" || true) | :
-refusal 'a pipe that nobody reads' 'standard output: Broken pipe'
+kept sh tools/run.sh replay "$printed" 2> "$room/said" > /dev/full
+refusal 'a full device' 'standard output: No space left on device' 1
+kept sh tools/run.sh replay "$printed" 2> "$room/said" >&-
+refusal 'standard output closed' 'standard output: Bad file descriptor' 1
+(trap '' PIPE; sleep 1; kept sh tools/run.sh replay "$printed" 2> "$room/said") | :
+refusal 'a pipe that nobody reads' 'standard output: Broken pipe' 1
 # The first write is short: the file may grow to one block and no further.
 zeros 64000 > "$room/trace"
-(trap '' XFSZ; ulimit -f 1; sh tools/run.sh replay "$room/trace" 2> "$room/said" > "$room/block" || true)
-refusal 'a file that may not grow' 'standard output: File too large'
+(trap '' XFSZ; ulimit -f 1; kept sh tools/run.sh replay "$room/trace" 2> "$room/said" > "$room/block")
+refusal 'a file that may not grow' 'standard output: File too large' 1
 
 # --- replay_long: the same lines for a trace of any size, from standard input ---
 # long: the program on standard input.
@@ -228,12 +237,12 @@ awk 'BEGIN { print "setup 10 4"; for (i = 1; i < 4001; i++) print "run 429496729
 long < "$room/trace"
 lines 'replay_long over the end of a part' "$room/want-lines"
 long < "$room"
-refusal 'replay_long on a directory' 'standard input: Is a directory'
+refusal 'replay_long on a directory' 'standard input: Is a directory' 1
 long <&-
-refusal 'replay_long with standard input closed' 'standard input: Bad file descriptor'
+refusal 'replay_long with standard input closed' 'standard input: Bad file descriptor' 1
 : > "$room/out"
-sh tools/run.sh replay_long < "$printed" 2> "$room/said" > /dev/full || true
-refusal 'replay_long to a full device' 'standard output: No space left on device'
+kept sh tools/run.sh replay_long < "$printed" 2> "$room/said" > /dev/full
+refusal 'replay_long to a full device' 'standard output: No space left on device' 1
 
 # --- the examples in traces/: beside each record stands the line that it prints ---
 for text in traces/*.txt; do

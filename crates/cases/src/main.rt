@@ -154,7 +154,7 @@ fn has_argument(rt: &impl Env) -> bool {
 
 // A line on standard error.
 fn complain(rt: &impl Eprint, line: &str) {
-    // Where standard error takes nothing either, the status tells.
+    // Where standard error takes nothing, there is nobody left to tell.
     let _ = rt.eprintln(line);
 }
 

@@ -39,12 +39,12 @@ size_plain is text counted = rw (text, ← is) counted
 
 -- after the sign
 module _ {out : List ℕ} {at n k : ℕ} {s : List ℕ} (is : n ≡ k) (text : s ≡ 45 ∷ decimal k) where
-  pub room_after : Room out at s → Room (set out at 45) (at + 1) (decimal n)
-  room_after room =
+  pub room_after : (sign : ℕ) → Room out at s → Room (set out at sign) (at + 1) (decimal n)
+  room_after sign room =
       let long = ap length text in
       let same = ap (λ (m : ℕ). length (decimal m)) is in
       let enough = room.room in
-      let kept = length-set out at 45 in
+      let kept = length-set out at sign in
       record { room = omega arith }
 
   pub after_sign : {now : List ℕ} {end : ℕ} (b : ℕ) → Put (set out at 45) now (at + 1) end (decimal n ++ b ∷ []) → Put out now at end (s ++ b ∷ [])

@@ -42,8 +42,12 @@ module _ {l : List ℕ} {at : ℕ} {z : ℤ} {x y : ℕ} (rest : Rest l at z x y
     left_1 : e₁ + (length (decimal x) + 1 + (length (decimal y) + 1)) ≤ length l₁
     left_1 = spent (signed z) 32 _ in_turn p
 
+    -- whatever is no longer than both values has room here
+    pub for_some : (n : ℕ) → length (decimal n) ≤ length (decimal x) + 1 + length (decimal y) → Room l₁ e₁ (decimal n)
+    for_some n h = record { room = omega (arith, left_1) }
+
     pub for_first : Room l₁ e₁ (decimal x)
-    for_first = record { room = omega (arith, left_1) }
+    for_first = for_some x (omega arith)
 
     module _ {l₂ : List ℕ} {e₂ : ℕ} (q : Put l₁ l₂ e₁ e₂ (decimal x ++ 32 ∷ [])) where
       pub for_second : Room l₂ e₂ (decimal y)

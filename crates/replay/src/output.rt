@@ -18,7 +18,7 @@ pub(crate) fn write_lines(rt: &(impl Print + Eprint + Alloc), trace: &[u8]) -> E
 
 // A line on standard error.
 pub(crate) fn complain(rt: &impl Eprint, line: &str) {
-    // Where standard error takes nothing either, the status tells.
+    // Where standard error takes nothing, there is nobody left to tell.
     let _ = rt.eprintln(line);
 }
 

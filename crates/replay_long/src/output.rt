@@ -77,7 +77,7 @@ fn write_last(rt: &(impl Print + Eprint + Alloc), cycles: u64, reading: u64) -> 
 
 // A line on standard error.
 pub(crate) fn complain(rt: &impl Eprint, line: &str) {
-    // Where standard error takes nothing either, the status tells.
+    // Where standard error takes nothing, there is nobody left to tell.
     let _ = rt.eprintln(line);
 }
 

@@ -44,7 +44,7 @@ pub(crate) fn differs(out: &mut impl Write, text: &[u8], place: usize) -> Result
 
 // A line on standard error.
 fn complain(rt: &impl Eprint, line: &str) {
-    // Where standard error takes nothing either, the status tells.
+    // Where standard error takes nothing, there is nobody left to tell.
     let _ = rt.eprintln(line);
 }
 

@@ -1,5 +1,5 @@
 -- A record's line, the lines that end a trace's text, and the room that the whole of it is asked for.
-use Prim.Native.Nat.{ℕ, ◌+◌, ◌*◌, ◌/◌, ◌%◌, ◌≤◌, ◌<◌}
+use Prim.Native.Nat.{ℕ, ◌+◌, ◌*◌, ◌/◌, ◌%◌, ◌^◌, ◌≤◌, ◌<◌}
 use mathlib.Core.Path.{◌≡◌, refl, sym, ap, ◌∙◌}
 use mathlib.Core.Bool.{Bool, true, false, cond}
 use mathlib.Core.List.{List, [], ◌∷◌, ◌++◌, append_assoc}
@@ -31,7 +31,7 @@ use Rattle.transcript.specs.Room.{Labelled, Replays, rest_of}
 use Rattle.transcript.specs.Replay.{machine_after, outcome_text, whole_records, lines_from, last_text, last_of, text_from, trace_text}
 use Rattle.transcript.specs.Buffer.{part_refused, part_of, part_buffer, last_room, room_for, replay_of, replayed_of, most_bytes}
 use Rattle.lines.proofs.Decimal.{some_digits, size_64}
-use Rattle.lines.proofs.Sizes.{line_size}
+use Rattle.lines.proofs.Sizes.{line_size, end_room_lem, tail_size}
 use Rattle.lines.proofs.Named.{named_text, underneath_short, covered}
 use Rattle.lines.proofs.Stores.{then, in_parts}
 use Rattle.lines.proofs.Whole.{accepted, put, refused, kept, roomy, put_length}
@@ -121,6 +121,52 @@ module _ (left cycles reading : ℕ) where
   unfolding last_text
   some_left n = simp (ne_eqb left 0 n)
 
+-- the last lines, put where they have room: the place after them, and the buffer
+module _ (out : List ℕ) (at cycles reading : ℕ) (few : cycles < 2 ^ 64) (small : reading < 2 ^ 64) (room : at + last_room ≤ length out) where
+  end_put : Put out (put_of out at (end_text cycles reading)) at (written_says (written_of out at (end_text cycles reading))).value (end_text cycles reading)
+  end_put = let size = end_room_lem cycles reading few small in stands out at (end_text cycles reading) (omega (arith, tail_size)) refl refl refl
+
+  pub end_within : (written_says (written_of out at (end_text cycles reading))).value ≤ at + last_room
+  end_within = let size = end_room_lem cycles reading few small in omega (arith, tail_size, end_put.next)
+
+  -- the tail first
+  abbrev tailed : List ℕ
+  tailed = put_of out at tail_text
+
+  abbrev second : ℕ
+  second = (written_says (written_of out at tail_text)).value
+
+  tail_put : Put out tailed at second tail_text
+  tail_put = stands out at tail_text (omega (arith, tail_size)) refl refl refl
+
+  end_after : Put tailed (put_of tailed second (end_text cycles reading)) second (written_says (written_of tailed second (end_text cycles reading))).value (end_text cycles reading)
+  end_after =
+      let size = end_room_lem cycles reading few small in
+      stands tailed second (end_text cycles reading) (omega (arith, tail_size, tail_put.next, put_length out at tail_text)) refl refl refl
+
+  pub both_within : (written_says (written_of tailed second (end_text cycles reading))).value ≤ at + last_room
+  both_within = let size = end_room_lem cycles reading few small in omega (arith, tail_size, tail_put.next, end_after.next)
+
+  module _ (left : ℕ) (none : left ≡ 0) where
+    alone : Put out (put_of out at (end_text cycles reading)) at (written_says (written_of out at (end_text cycles reading))).value (last_text left cycles reading)
+    alone = rw (none_left left cycles reading none) end_put
+
+    pub end_next : (written_says (written_of out at (end_text cycles reading))).value ≡ at + length (last_text left cycles reading)
+    end_next = alone.next
+
+    pub end_bytes : put_of out at (end_text cycles reading) ≡ sets out at (last_text left cycles reading)
+    end_bytes = alone.bytes
+
+  module _ (left : ℕ) (some : left ≡ 0 → ⊥) where
+    both : Put out (put_of tailed second (end_text cycles reading)) at (written_says (written_of tailed second (end_text cycles reading))).value (last_text left cycles reading)
+    both = rw (some_left left cycles reading some) (then tail_text (end_text cycles reading) tail_put end_after)
+
+    pub both_next : (written_says (written_of tailed second (end_text cycles reading))).value ≡ at + length (last_text left cycles reading)
+    both_next = both.next
+
+    pub both_bytes : put_of tailed second (end_text cycles reading) ≡ sets out at (last_text left cycles reading)
+    both_bytes = both.bytes
+
 -- the records' lines and the last ones are the text
 pub joined : {m : Machine} {s before between after : List ℕ} {end : ℕ} {r : Replayed} → Replays m 0 (length s / 16) s before between 0 r → Put between after r.end end (last_of (length s % 16) r.machine) → Put before after 0 end (text_from m s)
 unfolding text_from
@@ -139,6 +185,13 @@ module _ (slots : ℕ) (s out : List ℕ) where
       by_test true e = let lacks = ltb-true (length out) (length input_text) e in (simp (lt-ltb _ _ h, e) (refused out 0 input_text (omega arith)), simp (lt-ltb _ _ h, e) (kept out 0 input_text (omega arith)))
       by_test false e = let has = ltb-false (length out) (length input_text) e in (simp (lt-ltb _ _ h, e) (accepted out 0 input_text (omega arith) ∙ ap W.Accepted (zero-add (length input_text))), simp (lt-ltb _ _ h, e) (put out 0 input_text (omega arith)))
 
+  -- and so of what is put there
+  pub large_answer : {written : Written} → most_bytes < length s → written ≡ written_of out 0 input_text → written ≡ replay_of slots s out
+  large_answer h e = e ∙ (large h).0
+
+  pub large_buffer : {now : List ℕ} → most_bytes < length s → now ≡ put_of out 0 input_text → now ≡ replayed_of slots s out
+  large_buffer h e = e ∙ (large h).1
+
   -- too little room for any text of so many bytes
   pub no_room : length out < room_for (length s) → (W.Refused NoSpace ≡ replay_of slots s out) × (out ≡ replayed_of slots s out)
   unfolding replay_of replayed_of
@@ -147,6 +200,12 @@ module _ (slots : ℕ) (s out : List ℕ) where
   pub whole : {now : List ℕ} {end : ℕ} → length s ≤ most_bytes → room_for (length s) ≤ length out → Put out now 0 end (text_from (fresh_machine slots) s) → (W.Accepted end ≡ replay_of slots s out) × (now ≡ replayed_of slots s out)
   unfolding replay_of replayed_of trace_text
   whole few h p = (simp (le-ltb _ _ h, le-ltb _ _ few) (ap W.Accepted (p.next ∙ zero-add (length (text_from (fresh_machine slots) s)))), simp (le-ltb _ _ h, le-ltb _ _ few) p.bytes)
+
+  pub whole_answer : length s ≤ most_bytes → room_for (length s) ≤ length out → W.Accepted (length (text_from (fresh_machine slots) s)) ≡ replay_of slots s out
+  whole_answer few h = (whole few h (record { next = sym (zero-add (length (text_from (fresh_machine slots) s))); bytes = refl })).0
+
+  pub whole_buffer : {now : List ℕ} → length s ≤ most_bytes → room_for (length s) ≤ length out → now ≡ sets out 0 (text_from (fresh_machine slots) s) → now ≡ replayed_of slots s out
+  whole_buffer few h e = (whole few h (record { next = sym (zero-add (length (text_from (fresh_machine slots) s))); bytes = e })).1
 
 -- what a trace of no more than 64000 bytes asks for
 pub asked : (bytes : ℕ) → bytes ≤ most_bytes → room_for bytes ≡ bytes / 16 * line_room + last_room

@@ -89,7 +89,7 @@ fn slot(thread: u32, slots: usize) -> usize
 
 // The lines of so many records. The state stays in place, and each record writes only the parts of it that are new:
 // counter and clock, the books, one thread record, or all at setup. Whether it is malformed is asked once, since no
-// record makes it so. It is one function since no other can be lent the state.
+// record makes it so. It is one function, since the checker that it was written for let none with branches be lent the state.
 fn put_records(
     machine: Machine,
     first: u64,
@@ -297,7 +297,7 @@ fn lacks_lines(length: usize, at: usize, count: usize) -> bool
 }
 
 // The lines after the records'. A trace whose last record is short has bytes left over.
-#[tactic(auto, unfolding(crate::specs::Replay::last_text))]
+#[tactic(auto, using(crate::proofs::Texts::end_next, crate::proofs::Texts::end_bytes, crate::proofs::Texts::end_within, crate::proofs::Texts::both_next, crate::proofs::Texts::both_bytes, crate::proofs::Texts::both_within))]
 fn put_last(out: &mut [u8], at: usize, left: usize, cycles: u64, reading: u64) -> usize
     requires { at + last_room ≤ length out.old }
     ensures text { Put out.old out.new at result (last_text left cycles reading) }
@@ -348,7 +348,7 @@ fn put_whole(trace: &[u8], out: &mut [u8]) -> usize
 
 // The whole text of a trace, from the buffer's first byte on. Room is asked for the longest text that so many bytes can
 // have, so that nothing is written where it may not suffice.
-#[tactic(auto, unfolding(lines::specs::Says::written_says, crate::specs::Buffer::replay_of, crate::specs::Buffer::replayed_of))]
+#[tactic(auto, using(crate::proofs::Texts::large_answer, crate::proofs::Texts::large_buffer, crate::proofs::Texts::within, crate::proofs::Texts::asked, crate::proofs::Texts::whole_answer, crate::proofs::Texts::whole_buffer), unfolding(lines::specs::Says::written_says, crate::specs::Buffer::replay_of, crate::specs::Buffer::replayed_of))]
 pub fn replay(trace: &[u8], out: &mut [u8]) -> Written
     ensures answer { result ≡ replay_of ThreadUsage.SLOTS trace.now out.old }
     ensures buffer { out.new ≡ replayed_of ThreadUsage.SLOTS trace.now out.old }

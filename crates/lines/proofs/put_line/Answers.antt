@@ -1,9 +1,9 @@
 -- `put_line` asks for the room once, and puts the four parts.
-use Rattle.std.proofs.Common.{◌≡◌, ap, ℕ, ◌+◌, Bool, false, ltb, List, length, ℤ, w32, to_z, of_z}
+use Rattle.std.proofs.Common.{◌≡◌, ap, arith, ℕ, ◌+◌, Bool, false, ltb, List, length, ℤ, w32, to_z, of_z}
 use Rattle.lines.specs.Text.{line_text}
 use Rattle.lines.proofs.Signs.{same}
 use Rattle.lines.proofs.Parts.{there}
-use Rattle.lines.proofs.StepLine.{Line, Rest, for_number, for_rest, for_code, for_first, for_second, values, whole_line}
+use Rattle.lines.proofs.StepLine.{Line, Rest, for_number, for_rest, for_code, for_some, for_second, values, whole_line}
 use Rattle.lines.proofs.Whole.{no_room}
 use Rattle.lines.proofs.put_line.Goals.{After-put_long-second}
 use Rattle.lines.proofs.put_line.Goals as goal
@@ -33,7 +33,7 @@ pub put_code-third-requires : goal.put_code-third-requires
 put_code-third-requires c = for_code (rest (goal.at.put_code-third-requires c).After-put_long-second)
 
 pub put_number-fourth-requires : goal.put_number-fourth-requires
-put_number-fourth-requires c = for_first (rest (goal.at.put_number-fourth-requires c).After-put_long-second) c.put_code-third.ensures
+put_number-fourth-requires c = for_some (rest (goal.at.put_number-fourth-requires c).After-put_long-second) c.put_code-third.ensures _ (omega arith)
 
 pub put_number-end-requires : goal.put_number-end-requires
 put_number-end-requires c = for_second (rest (goal.at.put_number-end-requires c).After-put_long-second) c.put_code-third.ensures c.put_number-fourth.ensures

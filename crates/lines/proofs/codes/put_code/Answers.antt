@@ -3,7 +3,7 @@ use Rattle.lines.proofs.Signs.{same_number, minus_sign, no_sign, room_after, aft
 use Rattle.lines.proofs.codes.put_code.Goals as goal
 
 pub put_number-requires : goal.put_number-requires
-put_number-requires c = room_after (same_number c.ranges.code c.magnitude-number.ensures) (minus_sign c.ranges.code c.if-code-lt0.true) c.requires
+put_number-requires c = room_after (same_number c.ranges.code c.magnitude-number.ensures) (minus_sign c.ranges.code c.if-code-lt0.true) _ c.requires
 
 pub returns-then-code-lt0 : goal.returns-then-code-lt0
 returns-then-code-lt0 c =

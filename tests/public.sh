@@ -2,7 +2,8 @@
 # Every public function of a library has an ensures, demands nothing of its caller, and stands in two lists: that of
 # outcomes (crates/demands/proofs/Outcomes.antt), with its buffer where it is lent one to write in, and that of the
 # statements over its contract which say what it gives (crates/demands/specs, gathered by the demands). The methods
-# on a lent record and of a lent reader have their one outcome in proofs/Lent.antt. docs/CONTRACTS.md has the second list
+# on a lent record and of a lent reader have their one outcome in proofs/Lent.antt. A generic function's contract stands there
+# with its types, in brackets. docs/CONTRACTS.md has the second list
 # as a table; `sh tests/public.sh table' prints it anew. Programs have no lib.rt and nothing that others can call; docs/CONTRACTS.md lists them. No crate
 # can stand on an archive for C: its exports are held to the functions of the same names in the library that they call.
 set -eu
@@ -39,7 +40,7 @@ stated() {
         file=crates/demands/specs/$statement.antt
         as=$(sed -n "s/^use Rattle\.$1\.proofs\.$2\.Reads as //p" "$file")
         [ -n "$as" ] || continue
-        if grep -Eq "(Every|Gives[1-4]?|Refused|\.now\)) $as\.Post|(Exports|ExportsValue) .* $as\.Post( ×|\$)" "$file"; then
+        if grep -Eq "(Every|Gives[1-4]?|Refused|\.now\)+) \(?$as\.Post|(Exports|ExportsValue) .* $as\.Post( ×|\$)" "$file"; then
             echo "$statement"
             return
         fi
@@ -99,6 +100,7 @@ for lib in crates/*/src/lib.rt; do
                 if (type != "") prefix = prefix type "."
                 asked = 0; promised = 0; open = 1; lent = $0 ~ /&mut /
             }
+            open && /&mut / { lent = 1 }
             open && /requires/ { asked = 1 }
             open && /ensures/ { promised = 1 }
             open && /\{ *$/ { print prefix name, asked, promised, lent; open = 0 }
@@ -115,8 +117,8 @@ for lib in crates/*/src/lib.rt; do
                 continue
             fi
             as=$(sed -n "s/^use Rattle\.$crate\.proofs\.$name\.Reads as //p" "$outcomes")
-            if [ "$lent" = 1 ]; then outcome='OneOutcomeLent (.*)'; else outcome=OneOutcome; fi
-            [ -n "$as" ] && grep -q "$outcome $as\.Post" "$outcomes" || complain "$outcomes lacks $crate $name"
+            if [ "$lent" = 1 ]; then outcome='OneOutcomeLent \(.*\)'; else outcome=OneOutcome; fi
+            [ -n "$as" ] && grep -Eq "$outcome \(?$as\.Post" "$outcomes" || complain "$outcomes lacks $crate $name"
             statement=$(stated "$crate" "$name")
             [ -n "$statement" ] || complain "crates/demands/specs: no statement says what $crate $name gives"
             echo "$statement $crate $name" >> "$work/stated"

@@ -10,13 +10,13 @@ work=$(mktemp -d)
 trap 'rm -rf "$work"' EXIT
 bad=0
 
-# a line in which `old' stands becomes one with `new' instead; no other line may have it, but where `after' names a line
+# a line in which `old' stands becomes one with `new' instead, in which \n begins another; no other line may have it, but where `after' names a line
 # it is the next one
 replace() {
     AFTER=$2 OLD=$3 NEW=$4 awk '
-        BEGIN { after = ENVIRON["AFTER"]; open = after == "" }
+        BEGIN { after = ENVIRON["AFTER"]; open = after == ""; new = ENVIRON["NEW"]; gsub(/\\n/, "\n", new) }
         { at = open ? index($0, ENVIRON["OLD"]) : 0 }
-        at { found++; $0 = substr($0, 1, at - 1) ENVIRON["NEW"] substr($0, at + length(ENVIRON["OLD"])) }
+        at { found++; $0 = substr($0, 1, at - 1) new substr($0, at + length(ENVIRON["OLD"])) }
         at && after != "" { open = 0; after = "\n" }
         after != "" && index($0, after) { open = 1 }
         { print }

@@ -1,4 +1,5 @@
 -- Every accepted entry is as its law says.
+use Rattle.std.specs.Prelude.{Result, Ok, Err}
 use Prim.Native.Nat.{ℕ, ◌+◌}
 use mathlib.Core.Path.{◌≡◌, refl, sym, ap, ◌∙◌}
 use mathlib.Core.Bool.{Bool, true, false, cond, not, ◌&&◌, beq}
@@ -12,30 +13,21 @@ use Rattle.error.specs.declared.Refusal.TheVariants.{Overflow}
 use Rattle.error.specs.Numbers.{max64}
 use Rattle.error.proofs.Ordered.{by_outcome}
 use Rattle.usage.specs.declared.ThreadUsage.{ThreadUsage}
-use Rattle.usage.specs.declared.Changed.{Changed}
-use Rattle.usage.specs.declared.Changed.TheVariants as C
 use Rattle.usage.specs.Record.{with_flag, with_total}
 use Rattle.usage.specs.Leaves.{enabled, enabled_record, enable_tests, accumulated, sum_tests}
 use Rattle.books.specs.declared.Books.{Books}
 use Rattle.books.specs.declared.Entry.{Entry}
-use Rattle.books.specs.declared.Entered.{Entered}
-use Rattle.books.specs.declared.Entered.TheVariants as E
 use Rattle.books.specs.declared.Operation.{Operation}
 use Rattle.books.specs.declared.Operation.TheVariants as O
-use Rattle.books.specs.Entries.{open_of, shut_of, entered, charged, with_change, onward, close_of, stop_of, switch_of, altered, reopen_of, alter_of, enter_of}
+use Rattle.books.specs.Entries.{open_of, shut_of, entered, charged, onward, close_of, stop_of, switch_of, altered, reopen_of, alter_of, enter_of}
 use Rattle.books.specs.Running.{stopped, is_running, open_cycles}
 use Rattle.books.specs.Laws.{closes, flag_after, rises, stamp_after, running_after, EntryIs}
 
 -- what holds of each accepted case, with how it came about, holds of the outcome
-pub change_by_lem : (P : Entered → Type 0) (x : Changed) (go_on : ThreadUsage → Entered) → ((why : Refusal) → P (E.Refused why)) → ((v : ThreadUsage) → x ≡ C.Accepted v → P (go_on v)) → P (with_change x go_on)
-unfolding with_change
-change_by_lem P (C.Accepted v) go_on refused f = f v refl
-change_by_lem P (C.Refused why) go_on refused f = refused why
-
-pub onward_by : (P : Entered → Type 0) (x : Entered) (go_on : Entry → Entered) → ((why : Refusal) → P (E.Refused why)) → ((e : Entry) → x ≡ E.Accepted e → P (go_on e)) → P (onward x go_on)
+pub onward_by : {Value : Type 0} (P : Result Entry Refusal → Type 0) (x : Result Value Refusal) (go_on : Value → Result Entry Refusal) → ((why : Refusal) → P (Err why)) → ((v : Value) → x ≡ Ok v → P (go_on v)) → P (onward x go_on)
 unfolding onward
-onward_by P (E.Accepted e) go_on refused f = f e refl
-onward_by P (E.Refused why) go_on refused f = refused why
+onward_by P (Ok v) go_on refused f = f v refl
+onward_by P (Err why) go_on refused f = refused why
 
 -- a charge: the total of a tracked record alone
 pub record ChargeIs (u : ThreadUsage) (d : ℕ) (v : ThreadUsage) : Type 0 where
@@ -43,13 +35,13 @@ pub record ChargeIs (u : ThreadUsage) (d : ℕ) (v : ThreadUsage) : Type 0 where
   pub flag : v.track_usage ≡ u.track_usage
   pub windows : v.num_windows ≡ u.num_windows
 
-charge_is : (u : ThreadUsage) (d : ℕ) (v : ThreadUsage) → charged u d ≡ C.Accepted v → ChargeIs u d v
+charge_is : (u : ThreadUsage) (d : ℕ) (v : ThreadUsage) → charged u d ≡ Ok v → ChargeIs u d v
 unfolding charged accumulated
 charge_is u d v = by_flag u.track_usage refl
   where
-    by_flag : (on : Bool) → u.track_usage ≡ on → cond on (accumulated u d) (C.Accepted u) ≡ C.Accepted v → ChargeIs u d v
+    by_flag : (on : Bool) → u.track_usage ≡ on → cond on (accumulated u d) (Ok u) ≡ Ok v → ChargeIs u d v
     by_flag true on e =
-        by_outcome C.Refused (C.Accepted (with_total (record { 0 = u.total_cycles.0 + d }) u)) (λ (o : Changed). o ≡ C.Accepted v → ChargeIs u d v)
+        by_outcome Err (Ok (with_total (record { 0 = u.total_cycles.0 + d }) u)) (λ (o : Result ThreadUsage Refusal). o ≡ Ok v → ChargeIs u d v)
         (sum_tests u d)
         (λ why q. clash (cc))
         (λ none q. let is : with_total (record { 0 = u.total_cycles.0 + d }) u ≡ v = cc in rw (← is) (record { total = rw on refl; flag = refl; windows = refl }))
@@ -62,10 +54,10 @@ record AlterIs (u : ThreadUsage) (on : Bool) (v : ThreadUsage) : Type 0 where
   flag : v.track_usage ≡ on
   windows : v.num_windows ≡ u.num_windows + cond (on && not u.track_usage) 1 0
 
-alter_is : (u : ThreadUsage) (on : Bool) (v : ThreadUsage) → altered u on ≡ C.Accepted v → AlterIs u on v
+alter_is : (u : ThreadUsage) (on : Bool) (v : ThreadUsage) → altered u on ≡ Ok v → AlterIs u on v
 unfolding altered enabled
 alter_is u true v e =
-    by_outcome C.Refused (C.Accepted (enabled_record u)) (λ (o : Changed). o ≡ C.Accepted v → AlterIs u true v)
+    by_outcome Err (Ok (enabled_record u)) (λ (o : Result ThreadUsage Refusal). o ≡ Ok v → AlterIs u true v)
     (enable_tests u)
     (λ why q. clash (cc))
     (λ none q. let is : enabled_record u ≡ v = cc in rw (← is) (by_flag u.track_usage refl))
@@ -82,13 +74,13 @@ pub record CloseIs (b : Books) (u : ThreadUsage) (now : ℕ) (e : Entry) : Type 
   pub books : e.books ≡ shut_of b e.cycles
   pub charge : ChargeIs u e.cycles e.usage
 
-pub close_is : (b : Books) (u : ThreadUsage) (now : ℕ) (e : Entry) → close_of b u now ≡ E.Accepted e → CloseIs b u now e
+pub close_is : (b : Books) (u : ThreadUsage) (now : ℕ) (e : Entry) → close_of b u now ≡ Ok e → CloseIs b u now e
 unfolding close_of
 close_is b u now e =
-    by_outcome E.Refused _ (λ (o : Entered). o ≡ E.Accepted e → CloseIs b u now e)
+    by_outcome Err _ (λ (o : Result Entry Refusal). o ≡ Ok e → CloseIs b u now e)
     ((ltb max64 (b.total.0 + open_cycles b now), Overflow) ∷ [])
     (λ why q. clash (cc))
-    (λ none. change_by_lem (λ (o : Entered). o ≡ E.Accepted e → CloseIs b u now e) (charged u (open_cycles b now)) _
+    (λ none. onward_by (λ (o : Result Entry Refusal). o ≡ Ok e → CloseIs b u now e) (charged u (open_cycles b now)) _
     (λ why q. clash (cc))
     (λ v c q.
     let is : record { cycles = open_cycles b now; books = shut_of b (open_cycles b now); usage = v } ≡ e = cc in
@@ -105,11 +97,11 @@ idle_is b u now op c f w s r = record {
   running = sym r;
 }
 
-stop_is : (b : Books) (u : ThreadUsage) (now : ℕ) (e : Entry) → stop_of b u now ≡ E.Accepted e → EntryIs b u now O.Stop e
+stop_is : (b : Books) (u : ThreadUsage) (now : ℕ) (e : Entry) → stop_of b u now ≡ Ok e → EntryIs b u now O.Stop e
 unfolding stop_of closes flag_after rises stamp_after running_after
 stop_is b u now e = by_test (stopped b) refl
   where
-    by_test : (none : Bool) → stopped b ≡ none → cond none (entered 0 b u) (close_of b u now) ≡ E.Accepted e → EntryIs b u now O.Stop e
+    by_test : (none : Bool) → stopped b ≡ none → cond none (entered 0 b u) (close_of b u now) ≡ Ok e → EntryIs b u now O.Stop e
     by_test true t q =
         let is : record { cycles = 0; books = b; usage = u } ≡ e = cc in
         rw (← is) (idle_is b u now O.Stop (rw t refl) refl refl (sym (eqb-true _ _ t)) refl)
@@ -125,10 +117,10 @@ stop_is b u now e = by_test (stopped b) refl
           running = ap (λ (x : Books). x.running) c.books;
         }
 
-switch_is : (b : Books) (u : ThreadUsage) (now i : ℕ) (e : Entry) → switch_of b u now i ≡ E.Accepted e → EntryIs b u now (O.Switch i) e
+switch_is : (b : Books) (u : ThreadUsage) (now i : ℕ) (e : Entry) → switch_of b u now i ≡ Ok e → EntryIs b u now (O.Switch i) e
 unfolding switch_of closes flag_after rises stamp_after running_after
 switch_is b u now i e =
-    onward_by (λ (o : Entered). o ≡ E.Accepted e → EntryIs b u now (O.Switch i) e) (stop_of b u now) _
+    onward_by (λ (o : Result Entry Refusal). o ≡ Ok e → EntryIs b u now (O.Switch i) e) (stop_of b u now) _
     (λ why q. clash (cc))
     (λ s p q.
     let k = stop_is b u now s p in
@@ -161,7 +153,7 @@ module _ (b : Books) (u : ThreadUsage) (now i : ℕ) (on : Bool) (op : Operation
     (stamping : stamp_after b u now op ≡ cond (closes b u op) now b.stamp)
     (staying : running_after b op ≡ b.running)
     (e : Entry) where
-  as_wanted : beq u.track_usage on ≡ true → entered 0 b u ≡ E.Accepted e → EntryIs b u now op e
+  as_wanted : beq u.track_usage on ≡ true → entered 0 b u ≡ Ok e → EntryIs b u now op e
   as_wanted t q =
       let is : record { cycles = 0; books = b; usage = u } ≡ e = cc in
       let flag = same_flag _ _ t in
@@ -169,9 +161,9 @@ module _ (b : Books) (u : ThreadUsage) (now i : ℕ) (on : Bool) (op : Operation
       rw (← is)
       (idle_is b u now op none (flagging ∙ sym flag) (rising ∙ (rw flag (no_rise on))) (stamping ∙ simp none) staying)
 
-  other : beq u.track_usage on ≡ false → is_running b i ≡ false → with_change (altered u on) (λ v. entered 0 b v) ≡ E.Accepted e → EntryIs b u now op e
+  other : beq u.track_usage on ≡ false → is_running b i ≡ false → onward (altered u on) (λ v. entered 0 b v) ≡ Ok e → EntryIs b u now op e
   other t r =
-      change_by_lem (λ (o : Entered). o ≡ E.Accepted e → EntryIs b u now op e) (altered u on) (λ v. entered 0 b v)
+      onward_by (λ (o : Result Entry Refusal). o ≡ Ok e → EntryIs b u now op e) (altered u on) (λ v. entered 0 b v)
       (λ why q. clash (cc))
       (λ v p q.
       let is : record { cycles = 0; books = b; usage = v } ≡ e = cc in
@@ -188,14 +180,14 @@ module _ (b : Books) (u : ThreadUsage) (now i : ℕ) (on : Bool) (op : Operation
         running = sym staying;
       }))
 
-  reopened : beq u.track_usage on ≡ false → is_running b i ≡ true → reopen_of b u now i on ≡ E.Accepted e → EntryIs b u now op e
+  reopened : beq u.track_usage on ≡ false → is_running b i ≡ true → reopen_of b u now i on ≡ Ok e → EntryIs b u now op e
   unfolding reopen_of
   reopened t r =
-      onward_by (λ (o : Entered). o ≡ E.Accepted e → EntryIs b u now op e) (close_of b u now)
-      (λ s. with_change (altered s.usage on) (λ v. entered s.cycles (open_of s.books now i) v))
+      onward_by (λ (o : Result Entry Refusal). o ≡ Ok e → EntryIs b u now op e) (close_of b u now)
+      (λ s. onward (altered s.usage on) (λ v. entered s.cycles (open_of s.books now i) v))
       (λ why q. clash (cc))
       (λ s p.
-      change_by_lem (λ (o : Entered). o ≡ E.Accepted e → EntryIs b u now op e) (altered s.usage on) (λ v. entered s.cycles (open_of s.books now i) v)
+      onward_by (λ (o : Result Entry Refusal). o ≡ Ok e → EntryIs b u now op e) (altered s.usage on) (λ v. entered s.cycles (open_of s.books now i) v)
       (λ why q. clash (cc))
       (λ v x q.
       let is : record { cycles = s.cycles; books = open_of s.books now i; usage = v } ≡ e = cc in
@@ -213,11 +205,11 @@ module _ (b : Books) (u : ThreadUsage) (now i : ℕ) (on : Bool) (op : Operation
         running = runs_number b i r ∙ sym staying;
       })))
 
-  alter_entry : alter_of b u now i on ≡ E.Accepted e → EntryIs b u now op e
+  alter_entry : alter_of b u now i on ≡ Ok e → EntryIs b u now op e
   unfolding alter_of
   alter_entry = by_tests (beq u.track_usage on) refl (is_running b i) refl
     where
-      by_tests : (t : Bool) → beq u.track_usage on ≡ t → (r : Bool) → is_running b i ≡ r → cond t (entered 0 b u) (cond r (reopen_of b u now i on) (with_change (altered u on) (λ v. entered 0 b v))) ≡ E.Accepted e → EntryIs b u now op e
+      by_tests : (t : Bool) → beq u.track_usage on ≡ t → (r : Bool) → is_running b i ≡ r → cond t (entered 0 b u) (cond r (reopen_of b u now i on) (onward (altered u on) (λ v. entered 0 b v))) ≡ Ok e → EntryIs b u now op e
       by_tests true t r p q = as_wanted t q
       by_tests false t true r q = reopened t r q
       by_tests false t false r q = other t r q
@@ -231,7 +223,7 @@ beq_false true = refl
 beq_false false = refl
 
 -- an accepted entry is as its law says, whatever the operation
-pub entry_is : (b : Books) (u : ThreadUsage) (now : ℕ) (op : Operation) (e : Entry) → enter_of b u now op ≡ E.Accepted e → EntryIs b u now op e
+pub entry_is : (b : Books) (u : ThreadUsage) (now : ℕ) (op : Operation) (e : Entry) → enter_of b u now op ≡ Ok e → EntryIs b u now op e
 unfolding enter_of closes flag_after rises stamp_after running_after
 entry_is b u now (O.Start i) e q =
     let is : record { cycles = 0; books = open_of b now i; usage = u } ≡ e = cc in

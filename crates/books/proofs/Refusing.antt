@@ -1,4 +1,5 @@
 -- Each refusal of an entry, exactly.
+use Rattle.std.specs.Prelude.{Result, Ok, Err}
 use Prim.Native.Nat.{ℕ, ◌+◌}
 use mathlib.Core.Path.{◌≡◌, refl, sym, subst}
 use mathlib.Core.Bool.{Bool, true, false, cond, not, ◌&&◌, ◌||◌, beq}
@@ -10,56 +11,53 @@ use Rattle.error.specs.declared.Refusal.TheVariants.{Already, Overflow}
 use Rattle.error.specs.Numbers.{max32, max64}
 use Rattle.error.specs.InOrder.{in_order}
 use Rattle.usage.specs.declared.ThreadUsage.{ThreadUsage}
-use Rattle.usage.specs.declared.Changed.{Changed}
-use Rattle.usage.specs.declared.Changed.TheVariants as C
 use Rattle.usage.specs.Leaves.{enabled, accumulated}
 use Rattle.books.specs.declared.Books.{Books}
 use Rattle.books.specs.declared.Entry.{Entry}
-use Rattle.books.specs.declared.Entered.{Entered}
-use Rattle.books.specs.declared.Entered.TheVariants as E
 use Rattle.books.specs.declared.Operation.{Operation}
 use Rattle.books.specs.declared.Operation.TheVariants as O
-use Rattle.books.specs.Entries.{charged, with_change, onward, close_of, stop_of, switch_of, altered, reopen_of, alter_of, enter_of}
+use Rattle.books.specs.Entries.{charged, onward, close_of, stop_of, switch_of, altered, reopen_of, alter_of, enter_of}
 use Rattle.books.specs.Running.{stopped, is_running, busy, open_cycles, stamp_of}
 use Rattle.books.specs.Enter.{entry_of}
 use Rattle.books.specs.Laws.{EnteredIs, EveryEntry, closes, rises, too_many, full}
 use Rattle.books.proofs.Entering.{close_is, entry_is}
+use Rattle.error.specs.declared.Refusal.{Refusal}
 
 -- refused exactly where the test holds, and then since something does not fit
-unfoldable ChangeBy : Bool → Changed → Type 0
-ChangeBy t (C.Accepted u) = t ≡ false
-ChangeBy t (C.Refused why) = (why ≡ Overflow) × (t ≡ true)
+unfoldable ChangeBy : Bool → Result ThreadUsage Refusal → Type 0
+ChangeBy t (Ok u) = t ≡ false
+ChangeBy t (Err why) = (why ≡ Overflow) × (t ≡ true)
 
-unfoldable pub EntryBy : Bool → Entered → Type 0
-EntryBy t (E.Accepted e) = t ≡ false
-EntryBy t (E.Refused why) = (why ≡ Overflow) × (t ≡ true)
+unfoldable pub EntryBy : Bool → Result Entry Refusal → Type 0
+EntryBy t (Ok e) = t ≡ false
+EntryBy t (Err why) = (why ≡ Overflow) × (t ≡ true)
 
-kept : (e : Entry) → EntryBy false (E.Accepted e)
+kept : (e : Entry) → EntryBy false (Ok e)
 unfolding EntryBy
 kept e = refl
 
-refused : EntryBy true (E.Refused Overflow)
+refused : EntryBy true (Err Overflow)
 unfolding EntryBy
 refused = (refl, refl)
 
 -- one test
-changed_by : (t : Bool) (u : ThreadUsage) → ChangeBy t (in_order ((t, Overflow) ∷ []) C.Refused (C.Accepted u))
+changed_by : (t : Bool) (u : ThreadUsage) → ChangeBy t (in_order ((t, Overflow) ∷ []) Err (Ok u))
 unfolding ChangeBy
 changed_by true u = (refl, refl)
 changed_by false u = refl
 
 -- a test, and then another
-change_then : (s t : Bool) (x : Changed) (go_on : ThreadUsage → Entered) → ChangeBy s x → ((u : ThreadUsage) → EntryBy t (go_on u)) → EntryBy (s || t) (with_change x go_on)
-unfolding with_change ChangeBy EntryBy
-change_then s t (C.Accepted u) go_on h f = rw h (f u)
-change_then s t (C.Refused why) go_on h f = (h.0, rw h.1 refl)
+change_then : (s t : Bool) (x : Result ThreadUsage Refusal) (go_on : ThreadUsage → Result Entry Refusal) → ChangeBy s x → ((u : ThreadUsage) → EntryBy t (go_on u)) → EntryBy (s || t) (onward x go_on)
+unfolding onward ChangeBy EntryBy
+change_then s t (Ok u) go_on h f = rw h (f u)
+change_then s t (Err why) go_on h f = (h.0, rw h.1 refl)
 
-onward_then : (s t : Bool) (x : Entered) (go_on : Entry → Entered) → EntryBy s x → ((e : Entry) → x ≡ E.Accepted e → EntryBy t (go_on e)) → EntryBy (s || t) (onward x go_on)
+onward_then : (s t : Bool) (x : Result Entry Refusal) (go_on : Entry → Result Entry Refusal) → EntryBy s x → ((e : Entry) → x ≡ Ok e → EntryBy t (go_on e)) → EntryBy (s || t) (onward x go_on)
 unfolding onward EntryBy
-onward_then s t (E.Accepted e) go_on h f = rw h (f e refl)
-onward_then s t (E.Refused why) go_on h f = (h.0, rw h.1 refl)
+onward_then s t (Ok e) go_on h f = rw h (f e refl)
+onward_then s t (Err why) go_on h f = (h.0, rw h.1 refl)
 
-either : (c s t : Bool) (a b : Entered) → EntryBy s a → EntryBy t b → EntryBy (cond c s t) (cond c a b)
+either : (c s t : Bool) (a b : Result Entry Refusal) → EntryBy s a → EntryBy t b → EntryBy (cond c s t) (cond c a b)
 either true s t a b p q = p
 either false s t a b p q = q
 
@@ -67,7 +65,7 @@ charge_by : (u : ThreadUsage) (cycles : ℕ) → ChangeBy (u.track_usage && ltb 
 unfolding charged accumulated
 charge_by u cycles = by_flag u.track_usage
   where
-    by_flag : (on : Bool) → ChangeBy (on && ltb max64 (u.total_cycles.0 + cycles)) (cond on (accumulated u cycles) (C.Accepted u))
+    by_flag : (on : Bool) → ChangeBy (on && ltb max64 (u.total_cycles.0 + cycles)) (cond on (accumulated u cycles) (Ok u))
     by_flag true = changed_by (ltb max64 (u.total_cycles.0 + cycles)) _
     by_flag false = changed_by false u
 
@@ -87,7 +85,7 @@ module _ (b : Books) (u : ThreadUsage) (now : ℕ) where
   unfolding close_of too_many
   close_by =
       subst (λ (t : Bool). EntryBy t (close_of b u now)) (as_one (ltb max64 (b.total.0 + open_cycles b now)) _)
-      (either (ltb max64 (b.total.0 + open_cycles b now)) true _ (E.Refused Overflow) _ refused
+      (either (ltb max64 (b.total.0 + open_cycles b now)) true _ (Err Overflow) _ refused
       (change_then _ false _ _ (charge_by u (open_cycles b now)) (λ v. kept _)))
     where
       as_one : (x y : Bool) → cond x true (y || false) ≡ x || y
@@ -148,7 +146,7 @@ pub every_entry : EveryEntry
 unfolding entry_of EntryBy
 every_entry b u reading op = entered (busy b op) refl (enter_of b u (stamp_of reading.0) op) refl (entry_by b u (stamp_of reading.0) op)
   where
-    entered : (t : Bool) → busy b op ≡ t → (x : Entered) → enter_of b u (stamp_of reading.0) op ≡ x → EntryBy (full b u (stamp_of reading.0) op) x → EnteredIs b u (stamp_of reading.0) op (cond t (E.Refused Already) x)
+    entered : (t : Bool) → busy b op ≡ t → (x : Result Entry Refusal) → enter_of b u (stamp_of reading.0) op ≡ x → EntryBy (full b u (stamp_of reading.0) op) x → EnteredIs b u (stamp_of reading.0) op (cond t (Err Already) x)
     entered true e x q h = inl (e, refl)
-    entered false e (E.Accepted entry) q h = (entry_is b u (stamp_of reading.0) op entry q, (e, (h, tt)))
-    entered false e (E.Refused why) q h = inr (e, inl (h.1, sym h.0))
+    entered false e (Ok entry) q h = (entry_is b u (stamp_of reading.0) op entry q, (e, (h, tt)))
+    entered false e (Err why) q h = inr (e, inl (h.1, sym h.0))

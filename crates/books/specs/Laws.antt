@@ -1,5 +1,5 @@
 -- Believed: what every entry does to the books and to the one record, and exactly when it is refused.
-use Rattle.std.specs.Prelude.{ℕ, ◌+◌, ◌≡◌, Bool, true, false, cond, not, ◌&&◌, ◌||◌, [], ◌∷◌, ltb, eqb}
+use Rattle.std.specs.Prelude.{ℕ, ◌+◌, ◌≡◌, Bool, true, false, cond, not, ◌&&◌, ◌||◌, [], ◌∷◌, ltb, eqb, Result, Ok, Err}
 use Rattle.error.specs.declared.Refusal.TheVariants.{Already, Overflow}
 use Rattle.error.specs.Numbers.{max32, max64}
 use Rattle.error.specs.InOrder.{NoneHolds, FirstIs}
@@ -7,12 +7,11 @@ use Rattle.units.specs.declared.Cycles.{Cycles}
 use Rattle.usage.specs.declared.ThreadUsage.{ThreadUsage}
 use Rattle.books.specs.declared.Books.{Books}
 use Rattle.books.specs.declared.Entry.{Entry}
-use Rattle.books.specs.declared.Entered.{Entered}
-use Rattle.books.specs.declared.Entered.TheVariants as E
 use Rattle.books.specs.declared.Operation.{Operation}
 use Rattle.books.specs.declared.Operation.TheVariants as O
 use Rattle.books.specs.Running.{stopped, is_running, busy, open_cycles, stamp_of}
 use Rattle.books.specs.Enter.{entry_of}
+use Rattle.error.specs.declared.Refusal.{Refusal}
 
 -- whether it closes the open stretch
 unfoldable pub closes : Books → ThreadUsage → Operation → Bool
@@ -71,9 +70,9 @@ unfoldable pub full : Books → ThreadUsage → ℕ → Operation → Bool
 full b u now op = (closes b u op && too_many b u (open_cycles b now)) || (rises op u.track_usage && eqb u.num_windows max32)
 
 -- accepted, an entry does so and none of its rows holds; refused, it has the reason of the first that does
-abbrev pub EnteredIs : Books → ThreadUsage → ℕ → Operation → Entered → Type 0
-EnteredIs b u now op (E.Accepted e) = EntryIs b u now op e × NoneHolds ((busy b op, Already) ∷ (full b u now op, Overflow) ∷ [])
-EnteredIs b u now op (E.Refused why) = FirstIs ((busy b op, Already) ∷ (full b u now op, Overflow) ∷ []) why
+abbrev pub EnteredIs : Books → ThreadUsage → ℕ → Operation → Result Entry Refusal → Type 0
+EnteredIs b u now op (Ok e) = EntryIs b u now op e × NoneHolds ((busy b op, Already) ∷ (full b u now op, Overflow) ∷ [])
+EnteredIs b u now op (Err why) = FirstIs ((busy b op, Already) ∷ (full b u now op, Overflow) ∷ []) why
 
 abbrev pub EveryEntry : Type 0
 EveryEntry = (b : Books) (u : ThreadUsage) (reading : Cycles) (op : Operation) → EnteredIs b u (stamp_of reading.0) op (entry_of b u reading op)

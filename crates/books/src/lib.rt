@@ -5,16 +5,16 @@ ghost use Rattle.std.specs.Prelude.{◌≡◌, cond, eqb};
 ghost use Rattle.books.specs.Entries.{charged, close_of, stop_of, switch_of, altered, reopen_of, alter_of, enter_of, open_of};
 ghost use Rattle.books.specs.Running.{is_running, stamp_of, nothing_booked, no_thread, unrecorded, past, busy, concerned};
 ghost use Rattle.books.specs.Enter.{entry_of};
-ghost use Rattle.books.specs.Says.{entered_says, entered_why};
 
 use error::Refusal;
 use units::Cycles;
-use usage::{Changed, ThreadUsage};
+use usage::ThreadUsage;
 
 // What the ledger keeps besides the thread records.
 #[derive(Clone, Copy)]
 pub struct Books {
-    // The stamp at which the open stretch began; 0 where none runs.
+    // The stamp at which the open stretch began; 0 where none runs, as upstream's `stop_decide` has it. Books with the
+    // stamp 0 keep their thread (`stop_of`), which an `Option` of both would lose.
     pub stamp: u32,
     // The thread that runs; looked at only where the stamp is not 0.
     pub running: u32,
@@ -37,12 +37,6 @@ pub struct Entry {
     pub cycles: u32,
     pub books: Books,
     pub usage: ThreadUsage,
-}
-
-#[derive(Clone, Copy)]
-pub enum Entered {
-    Accepted(Entry),
-    Refused(Refusal),
 }
 
 #[tactic(auto, unfolding(crate::specs::Running::stamp_of))]
@@ -74,35 +68,35 @@ fn opened(books: Books, now: u32, thread: u32) -> Books
 
 // An untracked thread's own total stays; the machine's gets every stretch.
 #[tactic(auto, unfolding(crate::specs::Entries::charged))]
-fn charged(usage: ThreadUsage, cycles: u32) -> Changed
+fn charged(usage: ThreadUsage, cycles: u32) -> Result<ThreadUsage, Refusal>
     ensures { result ≡ charged usage cycles }
 {
     if usage.track_usage {
         return usage::accumulated(usage, cycles);
     }
-    Changed::Accepted(usage)
+    Ok(usage)
 }
 
+// Books, record and stamp go on apart: between the steps of a switch or a reopening books and record are others each time,
+// and one struct of the three would be made anew at each call.
+
 // Closes the open stretch, whose thread has the record handed in.
-#[tactic(auto, unfolding(crate::specs::Entries::close_of, crate::specs::Entries::with_change, usage::specs::Says::changed_why))]
-fn closed(books: Books, usage: ThreadUsage, now: u32) -> Entered
+#[tactic(auto, unfolding(crate::specs::Entries::close_of, crate::specs::Entries::onward))]
+fn closed(books: Books, usage: ThreadUsage, now: u32) -> Result<Entry, Refusal>
     ensures { result ≡ close_of books usage now }
 {
     let cycles = usage::elapsed_cycles(now, books.stamp);
     let room = u64::MAX - cycles as u64;
     if room < books.total.0 {
-        return Entered::Refused(Refusal::Overflow);
+        return Err(Refusal::Overflow);
     }
-    let changed = charged(usage, cycles);
-    let Changed::Accepted(next) = changed else {
-        return Entered::Refused(changed.refusal());
-    };
+    let next = charged(usage, cycles)?;
     let sum = books.total.0 + cycles as u64;
     let total = Cycles(sum);
     let mut shut = books;
     shut.stamp = 0;
     shut.total = total;
-    Entered::Accepted(Entry {
+    Ok(Entry {
         cycles: cycles,
         books: shut,
         usage: next,
@@ -110,11 +104,11 @@ fn closed(books: Books, usage: ThreadUsage, now: u32) -> Entered
 }
 
 #[tactic(auto, unfolding(crate::specs::Entries::stop_of))]
-fn stopped(books: Books, usage: ThreadUsage, now: u32) -> Entered
+fn stopped(books: Books, usage: ThreadUsage, now: u32) -> Result<Entry, Refusal>
     ensures { result ≡ stop_of books usage now }
 {
     if books.stamp == 0 {
-        return Entered::Accepted(Entry {
+        return Ok(Entry {
             cycles: 0,
             books: books,
             usage: usage,
@@ -125,16 +119,13 @@ fn stopped(books: Books, usage: ThreadUsage, now: u32) -> Entered
 
 // One stamp both closes and opens, so that no cycle is lost or counted twice between two threads.
 #[tactic(auto, unfolding(crate::specs::Entries::switch_of, crate::specs::Entries::onward))]
-fn switched(books: Books, usage: ThreadUsage, now: u32, thread: u32) -> Entered
+fn switched(books: Books, usage: ThreadUsage, now: u32, thread: u32) -> Result<Entry, Refusal>
     ensures { result ≡ switch_of books usage now thread }
 {
-    let stop = stopped(books, usage, now);
-    let Entered::Accepted(entry) = stop else {
-        return stop;
-    };
+    let entry = stopped(books, usage, now)?;
     let shut = entry.books;
     let next = entry.usage;
-    Entered::Accepted(Entry {
+    Ok(Entry {
         cycles: entry.cycles,
         books: opened(shut, now, thread),
         usage: next,
@@ -142,7 +133,7 @@ fn switched(books: Books, usage: ThreadUsage, now: u32, thread: u32) -> Entered
 }
 
 #[tactic(auto, unfolding(crate::specs::Entries::altered))]
-fn altered(usage: ThreadUsage, on: bool) -> Changed
+fn altered(usage: ThreadUsage, on: bool) -> Result<ThreadUsage, Refusal>
     ensures { result ≡ altered usage on }
 {
     if on {
@@ -153,12 +144,18 @@ fn altered(usage: ThreadUsage, on: bool) -> Changed
 }
 
 // Enable or disable. The stretch of a running thread is closed under the old flag and opened under the new one.
-#[tactic(auto, unfolding(crate::specs::Entries::alter_of, crate::specs::Entries::with_change, usage::specs::Says::changed_why))]
-fn flagged(books: Books, usage: ThreadUsage, now: u32, thread: u32, on: bool) -> Entered
+#[tactic(auto, unfolding(crate::specs::Entries::alter_of, crate::specs::Entries::onward))]
+fn flagged(
+    books: Books,
+    usage: ThreadUsage,
+    now: u32,
+    thread: u32,
+    on: bool,
+) -> Result<Entry, Refusal>
     ensures { result ≡ alter_of books usage now thread on }
 {
     if usage.track_usage == on {
-        return Entered::Accepted(Entry {
+        return Ok(Entry {
             cycles: 0,
             books: books,
             usage: usage,
@@ -167,32 +164,29 @@ fn flagged(books: Books, usage: ThreadUsage, now: u32, thread: u32, on: bool) ->
     if runs(books, thread) {
         return reopened(books, usage, now, thread, on);
     }
-    let changed = altered(usage, on);
-    let Changed::Accepted(next) = changed else {
-        return Entered::Refused(changed.refusal());
-    };
-    Entered::Accepted(Entry {
+    let next = altered(usage, on)?;
+    Ok(Entry {
         cycles: 0,
         books: books,
         usage: next,
     })
 }
 
-#[tactic(auto, unfolding(crate::specs::Entries::reopen_of, crate::specs::Entries::onward, crate::specs::Entries::with_change, usage::specs::Says::changed_why))]
-fn reopened(books: Books, usage: ThreadUsage, now: u32, thread: u32, on: bool) -> Entered
+#[tactic(auto, unfolding(crate::specs::Entries::reopen_of, crate::specs::Entries::onward))]
+fn reopened(
+    books: Books,
+    usage: ThreadUsage,
+    now: u32,
+    thread: u32,
+    on: bool,
+) -> Result<Entry, Refusal>
     ensures { result ≡ reopen_of books usage now thread on }
 {
-    let close = closed(books, usage, now);
-    let Entered::Accepted(entry) = close else {
-        return close;
-    };
+    let entry = closed(books, usage, now)?;
     let shut = entry.books;
     let old = entry.usage;
-    let changed = altered(old, on);
-    let Changed::Accepted(next) = changed else {
-        return Entered::Refused(changed.refusal());
-    };
-    Entered::Accepted(Entry {
+    let next = altered(old, on)?;
+    Ok(Entry {
         cycles: entry.cycles,
         books: opened(shut, now, thread),
         usage: next,
@@ -201,11 +195,16 @@ fn reopened(books: Books, usage: ThreadUsage, now: u32, thread: u32, on: bool) -
 
 // An operation's entry at a stamp, once its tests are made.
 #[tactic(auto, unfolding(crate::specs::Entries::enter_of))]
-fn enter_at(books: Books, usage: ThreadUsage, now: u32, operation: Operation) -> Entered
+fn enter_at(
+    books: Books,
+    usage: ThreadUsage,
+    now: u32,
+    operation: Operation,
+) -> Result<Entry, Refusal>
     ensures { result ≡ enter_of books usage now operation }
 {
     match operation {
-        Operation::Start(thread) => Entered::Accepted(Entry {
+        Operation::Start(thread) => Ok(Entry {
             cycles: 0,
             books: opened(books, now, thread),
             usage: usage,
@@ -214,28 +213,6 @@ fn enter_at(books: Books, usage: ThreadUsage, now: u32, operation: Operation) ->
         Operation::Stop => stopped(books, usage, now),
         Operation::Enable(thread) => flagged(books, usage, now, thread, true),
         Operation::Disable(thread) => flagged(books, usage, now, thread, false),
-    }
-}
-
-#[tactic(auto, unfolding(crate::specs::Says::entered_says, crate::specs::Says::entered_why))]
-impl Entered {
-    pub fn number(self) -> i32
-        ensures { result ≡ (entered_says self).number }
-    {
-        match self {
-            Entered::Accepted(_) => error::OK,
-            Entered::Refused(why) => why.number(),
-        }
-    }
-
-    // For whoever has found it refused.
-    pub fn refusal(self) -> Refusal
-        ensures { result ≡ entered_why self }
-    {
-        match self {
-            Entered::Accepted(_) => Refusal::Invalid,
-            Entered::Refused(why) => why,
-        }
     }
 }
 
@@ -285,11 +262,16 @@ pub fn busy(books: Books, operation: Operation) -> bool
 // An operation over the books and the one record that it concerns, which is given back: the same cost for any number of
 // threads. Which record that is `concerned` tells, and whether the table has it `past` and `unrecorded`.
 #[tactic(auto, unfolding(crate::specs::Enter::entry_of))]
-pub fn enter(books: Books, usage: ThreadUsage, reading: Cycles, operation: Operation) -> Entered
+pub fn enter(
+    books: Books,
+    usage: ThreadUsage,
+    reading: Cycles,
+    operation: Operation,
+) -> Result<Entry, Refusal>
     ensures { result ≡ entry_of books usage reading operation }
 {
     if busy(books, operation) {
-        return Entered::Refused(Refusal::Already);
+        return Err(Refusal::Already);
     }
     enter_at(books, usage, stamp_of(reading), operation)
 }

@@ -1,94 +1,81 @@
-// A line of the list, taken byte by byte: its numbers, or that it can't be read.
+// A line of the list, taken byte by byte.
+use arrayvec::ArrayVec;
 
 // More than any row of the list has.
-pub const COLUMNS: usize = 12;
+const COLUMNS: usize = 12;
 
-pub type Row = [u64; COLUMNS];
+#[derive(Drop)]
+pub enum Line {
+    Row(Row),
+    Comment,
+    Unreadable,
+}
 
-#[derive(Clone, Copy)]
-pub struct Line {
-    pub comment: bool,
-    pub unreadable: bool,
-    // A number has begun, and its digits so far make this.
-    pub begun: bool,
-    pub number: u64,
-    // How many numbers are whole, and these.
-    pub count: usize,
-    pub numbers: Row,
+// A row so far. An empty line is one with no number.
+#[derive(Drop)]
+pub struct Row {
+    // Those that are whole.
+    numbers: ArrayVec<u64, COLUMNS>,
+    // What the digits so far make of one that has begun.
+    begun: Option<u64>,
 }
 
 impl Line {
     pub(crate) fn new() -> Self {
-        Self {
-            comment: false,
-            unreadable: false,
-            begun: false,
-            number: 0,
-            count: 0,
-            numbers: [0; COLUMNS],
+        Line::Row(Row {
+            numbers: ArrayVec::new(),
+            begun: None,
+        })
+    }
+
+    // Takes a byte more, which is no line feed. A comment takes a whole line: after a number it is a slip.
+    pub(crate) fn push(&mut self, byte: u8) {
+        let Line::Row(row) = self else {
+            return;
+        };
+        if byte == b'#' && row.is_empty() {
+            *self = Line::Comment;
+        } else if row.push(byte).is_none() {
+            *self = Line::Unreadable;
         }
     }
 
-    // The line with a byte more, which is no line feed.
-    pub(crate) fn longer(self, byte: u8) -> Self {
-        if self.comment {
-            return self;
-        }
+    // The line is whole, and so is its last number.
+    pub(crate) fn end(&mut self) {
+        self.push(b' ');
+    }
+}
+
+impl Row {
+    pub(crate) fn numbers(&self) -> &[u64] {
+        self.numbers.as_slice()
+    }
+
+    fn is_empty(&self) -> bool {
+        self.numbers.is_empty() && self.begun.is_none()
+    }
+
+    // None where the byte makes the row unreadable.
+    fn push(&mut self, byte: u8) -> Option<()> {
         match byte {
-            b'0'..=b'9' => self.with_digit((byte - b'0') as u64),
-            b' ' => self.closed(),
-            b'#' => self.with_hash(),
-            _ => self.spoilt(),
+            b'0'..=b'9' => self.push_digit(byte - b'0'),
+            b' ' => self.close(),
+            _ => None,
         }
     }
 
-    // The line once its last number, if one had begun, is whole.
-    pub(crate) fn closed(self) -> Self {
-        if !self.begun {
-            return self;
-        }
-        let at = self.count;
-        if at >= COLUMNS {
-            return self.spoilt();
-        }
-        let number = self.number;
-        let mut next = self;
-        next.numbers[at] = number;
-        next.count = at + 1;
-        next.begun = false;
-        next.number = 0;
-        next
+    // None where 64 bits don't hold the number.
+    fn push_digit(&mut self, digit: u8) -> Option<()> {
+        let tens = self.begun.unwrap_or(0).checked_mul(10)?;
+        self.begun = Some(tens.checked_add(u64::from(digit))?);
+        Some(())
     }
 
-    fn with_digit(self, digit: u64) -> Self {
-        let most = (u64::MAX - digit) / 10;
-        if most < self.number {
-            return self.spoilt();
+    // None where there is no room for the number that had begun.
+    fn close(&mut self) -> Option<()> {
+        match self.begun.take() {
+            Some(number) => self.numbers.try_push(number).ok(),
+            None => Some(()),
         }
-        let tens = self.number * 10;
-        let number = tens + digit;
-        let mut next = self;
-        next.begun = true;
-        next.number = number;
-        next
-    }
-
-    // A comment takes a whole line: after a number it is a slip.
-    fn with_hash(self) -> Self {
-        if self.begun {
-            return self.spoilt();
-        }
-        if self.count > 0 {
-            return self.spoilt();
-        }
-        let mut next = self;
-        next.comment = true;
-        next
-    }
-
-    fn spoilt(self) -> Self {
-        let mut next = self;
-        next.unreadable = true;
-        next
     }
 }

@@ -1,15 +1,16 @@
 // The bytes of the list, taken in order: each line that ends is compared and counted.
-use crate::compare::{Verdict, judged};
+use crate::functions::FUNCTIONS;
 use crate::line::Line;
-use crate::tally::{Tally, more};
+use crate::tally::{Tally, Verdict};
 use std::io::{Result, Write};
 
-// The lines that have ended, as a tally, and what has come of the next, whose number from 1 is at.
-#[derive(Clone, Copy)]
+#[derive(Drop)]
 pub struct Reading {
-    pub at: u64,
-    pub line: Line,
-    pub tally: Tally,
+    // The number from 1 of the line that has not ended, and what has come of it.
+    at: u64,
+    line: Line,
+    // The lines that have ended.
+    tally: Tally,
 }
 
 impl Reading {
@@ -17,57 +18,57 @@ impl Reading {
         Self {
             at: 1,
             line: Line::new(),
-            tally: Tally::new(),
+            tally: Tally::default(),
         }
     }
 
-    pub(crate) fn with_bytes(self, out: &mut impl Write, bytes: &[u8]) -> Result<Self> {
-        let mut reading = self;
-        let mut i = 0;
-        while i < bytes.len() {
-            reading = reading.with_byte(out, bytes[i])?;
-            i += 1;
+    pub(crate) fn take(&mut self, out: &mut impl Write, bytes: &[u8]) -> Result<()> {
+        for &byte in bytes {
+            if byte == b'\n' {
+                self.end_line(out)?;
+            } else {
+                self.line.push(byte);
+            }
         }
-        Ok(reading)
+        Ok(())
     }
 
     // The last line may lack its line feed, so the end of the list ends a line too.
-    pub(crate) fn ended(self, out: &mut impl Write) -> Result<Tally> {
-        let whole = self.with_line(out)?;
-        Ok(whole.tally)
+    pub(crate) fn end(&mut self, out: &mut impl Write) -> Result<()> {
+        self.end_line(out)?;
+        self.tally.say(out)
     }
 
-    fn with_byte(self, out: &mut impl Write, byte: u8) -> Result<Self> {
-        if byte == b'\n' {
-            return self.with_line(out);
+    fn end_line(&mut self, out: &mut impl Write) -> Result<()> {
+        self.line.end();
+        if let Some(verdict) = verdict(&self.line) {
+            self.tally.count(out, verdict, self.at)?;
         }
-        let line = self.line;
-        let longer = line.longer(byte);
-        let mut next = self;
-        next.line = longer;
-        Ok(next)
-    }
-
-    fn with_line(self, out: &mut impl Write) -> Result<Self> {
-        let line = self.line;
-        let tally = self.tally;
-        Ok(Self {
-            at: more(self.at),
-            line: Line::new(),
-            tally: counted(out, tally, line.closed(), self.at)?,
-        })
+        self.line = Line::new();
+        self.at = self.at.saturating_add(1);
+        Ok(())
     }
 }
 
-// A comment and an empty line are no rows.
-fn counted(out: &mut impl Write, tally: Tally, line: Line, at: u64) -> Result<Tally> {
-    if line.unreadable {
-        return tally.with(out, Verdict::Unreadable, 0, at);
+// None of a comment or an empty line, which are no rows.
+fn verdict(line: &Line) -> Option<Verdict> {
+    match line {
+        Line::Row(row) if row.numbers().is_empty() => None,
+        Line::Row(row) => Some(judged(row.numbers()).unwrap_or(Verdict::Unreadable)),
+        Line::Comment => None,
+        Line::Unreadable => Some(Verdict::Unreadable),
     }
-    if line.count == 0 {
-        return Ok(tally);
+}
+
+fn judged(row: &[u64]) -> Option<Verdict> {
+    let (number, columns) = row.split_first()?;
+    let (place, function) = FUNCTIONS
+        .iter()
+        .enumerate()
+        .find(|(_, function)| function.number == *number)?;
+    if (function.compare)(columns)? {
+        Some(Verdict::Agrees(place))
+    } else {
+        Some(Verdict::Differs)
     }
-    let row = line.numbers;
-    let verdict = judged(line.count, row);
-    tally.with(out, verdict, row[0], at)
 }

@@ -1,4 +1,5 @@
 -- With no premises: what a run from setup keeps between its events, and what it shows at each.
+use Rattle.std.specs.Prelude.{Ok}
 use Prim.Native.Nat.{ℕ, ◌+◌, ◌-◌, ◌*◌, ◌/◌, ◌%◌, ◌≤◌, ◌<◌}
 use mathlib.Core.Path.{◌≡◌, refl, sym, ap, ◌∙◌}
 use mathlib.Core.Bool.{Bool, true, false, cond, false≢true}
@@ -11,8 +12,7 @@ use Rattle.counter.proofs.Cycles.{after}
 use Rattle.counter.proofs.Outcomes.{in_range_of}
 use Rattle.systick.proofs.Outcomes.{announced_now}
 use Rattle.clock.specs.declared.Timer.{Timer}
-use Rattle.clock.specs.declared.Gaps.{Gaps}
-use Rattle.clock.specs.declared.Announced.TheVariants as A
+use Rattle.counter.specs.declared.Gaps.{Gaps}
 use Rattle.clock.specs.Timer.{well_formed, setup}
 use Rattle.clock.specs.Sample.{decision, reading_of, sample_value}
 use Rattle.clock.specs.Announce.{announce_of, announcement}
@@ -131,7 +131,7 @@ module _ (l seen : ℕ) (t : Timer) (k : Accounts l seen t) where
       let below : (new - t.clock.announced.0) / t.clock.tick < 4294967296 = (div-lt_iff_lt-mul {k = t.clock.tick} k.ticks).1 (omega arith) in
       omega arith
 
-  pub accepts : announce_of t ≡ A.Accepted (announcement t)
+  pub accepts : announce_of t ≡ Ok (announcement t)
   unfolding announced_by
   accepts =
       announce_decided t formed ∙

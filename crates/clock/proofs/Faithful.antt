@@ -11,7 +11,7 @@ use Rattle.counter.specs.Cycle.{run_n, wraps, cleared}
 use Rattle.counter.specs.Valid.{Valid}
 use Rattle.counter.proofs.Cycles.{after, valid_cleared}
 use Rattle.clock.specs.declared.Timer.{Timer}
-use Rattle.clock.specs.declared.Gaps.{Gaps}
+use Rattle.counter.specs.declared.Gaps.{Gaps}
 use Rattle.clock.specs.Timer.{setup}
 use Rattle.clock.specs.Sample.{decision, reading_of, sample_value}
 use Rattle.clock.specs.Announce.{announcement}

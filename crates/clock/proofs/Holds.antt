@@ -1,19 +1,17 @@
 -- What holds of every run of counter and clock from setup, after any list of events.
+use Rattle.std.specs.Prelude.{Ok}
 use Prim.Native.Nat.{ℕ, ◌-◌, ◌*◌, ◌/◌, ◌%◌, ◌≤◌}
 use mathlib.Core.Path.{◌≡◌}
 use mathlib.Core.List.{List}
 use mathlib.Core.Bool.{true, false}
 use Rattle.error.specs.Numbers.{max64}
-use Rattle.counter.specs.Readings.{cycles_above}
-use Rattle.clock.specs.declared.Gaps.{Gaps}
-use Rattle.clock.specs.declared.SetUp.TheVariants as U
+use Rattle.counter.specs.Readings.{cycles_above, cycles_of}
+use Rattle.counter.specs.declared.Gaps.{Gaps}
 use Rattle.clock.specs.declared.SampleTaken.{SampleTaken}
-use Rattle.clock.specs.declared.Sampled.TheVariants as S
 use Rattle.clock.specs.declared.Announcement.{Announcement}
-use Rattle.clock.specs.declared.Announced.TheVariants as A
 use Rattle.clock.specs.Timer.{well_formed, GoodSetup}
 use Rattle.clock.specs.Entries.{set_up, sample_of}
-use Rattle.clock.specs.Sample.{cycles_of, crowded}
+use Rattle.clock.specs.Sample.{crowded}
 use Rattle.clock.specs.Announce.{announce_of}
 use Rattle.clock.specs.Multiple.{LargestMultiple}
 use Rattle.clock.proofs.Run.{World, Event, announce, start, step, after, FairRun}
@@ -29,13 +27,13 @@ pub record HoldsAlways (period tick : ℕ) (w : World) : Type 0 where
   pub formed : well_formed w.timer ≡ true
   pub fits : w.timer.counter.cycles.0 ≤ max64
   pub never_ahead : NeverAhead period w.read w.cycles_c
-  pub announce_accepted : (a : Announcement) × (announce_of w.timer ≡ A.Accepted a)
+  pub announce_accepted : (a : Announcement) × (announce_of w.timer ≡ Ok a)
   -- a sample is accepted unless the overflow has no room for it or T would pass 2^64 - 1
   pub sample_accepted :
       (g : Gaps) →
       crowded w.timer ≡ false →
       cycles_above w.timer.counter (cycles_of g) ≡ false →
-      (taken : SampleTaken) × (sample_of w.timer g ≡ S.Accepted taken)
+      (taken : SampleTaken) × (sample_of w.timer g ≡ Ok taken)
   pub same_tick : w.timer.clock.tick ≡ tick
   -- what is stored is what was answered
   pub last : w.timer.clock.last.0 ≡ w.read
@@ -61,7 +59,7 @@ pub record True (w : World) : Type 0 where
 
 pub record Holds (period tick : ℕ) (es : List Event) (w : World) : Type 0 where
   -- runs start from what setup answers
-  pub set_up_lem : set_up period tick ≡ U.Accepted (start period tick).timer
+  pub set_up_lem : set_up period tick ≡ Ok (start period tick).timer
   pub always : HoldsAlways period tick w
   pub announcements : AnnouncedIn period tick (step announce w)
   pub faithful : FairRun es (start period tick) → True w

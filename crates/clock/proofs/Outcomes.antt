@@ -1,48 +1,31 @@
 -- Each outcome of each entry of the clock, from the facts that bring it about.
-use Prim.Native.Nat.{ℕ, ◌+◌, ◌-◌, ◌*◌, ◌≤◌, ◌<◌}
+use Rattle.std.specs.Prelude.{Result, Ok, Err}
+use Prim.Native.Nat.{ℕ, ◌+◌, ◌≤◌, ◌<◌}
 use mathlib.Core.Path.{◌≡◌, refl, sym, ap, ◌∙◌}
 use mathlib.Core.Bool.{Bool, true, false, not, ◌&&◌}
 use native.Mathlib.Omega.{arith}
-use borrow.Author.Tests.{le-leb, lt-leb, leb-true, leb-false, eqb-false}
-use lib.Dec.{leb, ltb, eqb}
-use Rattle.error.proofs.Tests.{clash, same_test}
+use borrow.Author.Tests.{lt-leb, leb-true, eqb-false}
+use lib.Dec.{leb, eqb}
+use Rattle.error.proofs.Tests.{clash}
 use Rattle.error.specs.declared.Refusal.{Refusal}
 use Rattle.error.specs.declared.Refusal.TheVariants.{Invalid, Again, Overflow}
-use Rattle.error.specs.Numbers.{max32}
 use Rattle.error.proofs.Ordered.{carried}
 use Rattle.systick.specs.Leaves.{announce_decide}
 use Rattle.systick.specs.Decisions.{announce_tests, announce_value}
 use Rattle.systick.specs.declared.AnnounceDecideResult.{AnnounceDecideResult}
-use Rattle.systick.specs.declared.AnnounceDecide.{AnnounceDecide}
-use Rattle.systick.specs.declared.AnnounceDecide.TheVariants as D
-use Rattle.systick.specs.Says.{announce_decide_why}
 use Rattle.counter.specs.declared.Counter.{Counter}
-use Rattle.counter.specs.declared.Ran.{Ran}
-use Rattle.counter.specs.declared.Ran.TheVariants as R
 use Rattle.counter.specs.Cycle.{fresh_counter}
 use Rattle.counter.specs.Entries.{started_of}
-use Rattle.counter.specs.Readings.{good_period, in_range, cycles_above}
+use Rattle.counter.specs.Readings.{good_period, in_range, cycles_above, cycles_of}
 use Rattle.counter.specs.Valid.{Valid}
 use Rattle.counter.proofs.Outcomes.{both, period_bounds, good_of_bounds, valid_of, started_good}
 use Rattle.clock.specs.declared.Timer.{Timer}
-use Rattle.clock.specs.declared.Gaps.{Gaps}
-use Rattle.clock.specs.declared.SetUp.TheVariants as U
-use Rattle.clock.specs.declared.Sampled.TheVariants as S
+use Rattle.counter.specs.declared.Gaps.{Gaps}
 use Rattle.clock.specs.declared.Announcement.{Announcement}
-use Rattle.clock.specs.declared.Announced.{Announced}
-use Rattle.clock.specs.declared.Announced.TheVariants as A
-use Rattle.clock.specs.Timer.{setup, bad_setup, GoodSetup, accounted_for, well_formed}
+use Rattle.clock.specs.Timer.{setup, GoodSetup, accounted_for, well_formed}
 use Rattle.clock.specs.Entries.{set_up, sample_of, Ready}
-use Rattle.clock.specs.Sample.{cycles_of, crowded, sample_value}
+use Rattle.clock.specs.Sample.{crowded, sample_value}
 use Rattle.clock.specs.Announce.{announce_of, announcement_from}
-
--- a test of a sum against a limit, when one part is taken off the limit first
-pub shifted : (a b limit : ℕ) → b ≤ limit → leb a (limit - b) ≡ leb (a + b) limit
-shifted a b limit h = by_test (leb (a + b) limit) refl
-  where
-    by_test : (t : Bool) → leb (a + b) limit ≡ t → leb a (limit - b) ≡ leb (a + b) limit
-    by_test true e = let k : a + b ≤ limit = leb-true _ _ e in le-leb a (limit - b) (omega arith) ∙ sym e
-    by_test false e = let k : limit < a + b = leb-false _ _ e in lt-leb a (limit - b) (omega arith) ∙ sym e
 
 pub past : (a b limit : ℕ) → limit < b → false ≡ leb (a + b) limit
 past a b limit h = sym (lt-leb (a + b) limit (omega arith))
@@ -54,11 +37,7 @@ pub record SetupFacts (period tick : ℕ) : Type 0 where
   pub ticks : 1 ≤ tick
 
 module _ (period tick : ℕ) where
-  pub setup_bad : bad_setup period tick ≡ true → set_up period tick ≡ U.Refused Invalid
-  unfolding set_up
-  setup_bad e = rw e refl
-
-  pub set_up_lem : GoodSetup period tick → set_up period tick ≡ U.Accepted (setup period tick)
+  pub set_up_lem : GoodSetup period tick → set_up period tick ≡ Ok (setup period tick)
   unfolding set_up
   set_up_lem e = rw e refl
 
@@ -76,37 +55,29 @@ module _ (t : Timer) where
   unfolding well_formed
   formed not-ahead e l = simp (e, l)
 
-  pub unformed : in_range t.counter ≡ false → false ≡ well_formed t
-  unfolding well_formed
-  unformed e = simp e
-
   -- and what they tell
   pub formed_valid : well_formed t ≡ true → Valid t.counter.period t.counter
   unfolding well_formed
   formed_valid e = valid_of t.counter (both _ _ (both (in_range t.counter && leb 1 t.clock.tick) _ e).0).0
-
-  -- 01's test of the overflow, with one added on both sides
-  pub crowding : ltb 4294967296 (t.clock.overflow + 2 * t.counter.period) ≡ crowded t
-  crowding = same_test 4294967296 (t.clock.overflow + 2 * t.counter.period) max32 (t.clock.overflow + 2 * t.counter.period - 1) (λ h. omega arith) (λ h. omega arith)
 
   pub formed_behind : well_formed t ≡ true → accounted_for t ≤ t.counter.cycles.0
   unfolding well_formed
   formed_behind e = leb-true _ _ (both (in_range t.counter && leb 1 t.clock.tick) (leb (accounted_for t) t.counter.cycles.0) e).1
 
 module _ (t : Timer) (g : Gaps) where
-  pub malformed : well_formed t ≡ false → sample_of t g ≡ S.Refused Invalid
+  pub malformed : well_formed t ≡ false → sample_of t g ≡ Err Invalid
   unfolding sample_of
   malformed e = simp e
 
-  pub announce_first : well_formed t ≡ true → crowded t ≡ true → sample_of t g ≡ S.Refused Again
+  pub announce_first : well_formed t ≡ true → crowded t ≡ true → sample_of t g ≡ Err Again
   unfolding sample_of
   announce_first e h = simp (e, h)
 
-  pub cycles_above_lem : well_formed t ≡ true → crowded t ≡ false → cycles_above t.counter (cycles_of g) ≡ true → sample_of t g ≡ S.Refused Overflow
+  pub cycles_above_lem : well_formed t ≡ true → crowded t ≡ false → cycles_above t.counter (cycles_of g) ≡ true → sample_of t g ≡ Err Overflow
   unfolding sample_of
   cycles_above_lem e a h = simp (e, a, h)
 
-  pub sampled : well_formed t ≡ true → crowded t ≡ false → cycles_above t.counter (cycles_of g) ≡ false → sample_of t g ≡ S.Accepted (sample_value t g)
+  pub sampled : well_formed t ≡ true → crowded t ≡ false → cycles_above t.counter (cycles_of g) ≡ false → sample_of t g ≡ Ok (sample_value t g)
   unfolding sample_of
   sampled e a b = simp (e, a, b)
 
@@ -114,15 +85,15 @@ module _ (t : Timer) (g : Gaps) where
   ready e a b = record { valid = formed_valid t e; behind = formed_behind t e; room = a; fits = b }
 
 -- what the leaf decides, and what an announcement makes of it
-abbrev decided : Timer → AnnounceDecide
+abbrev decided : Timer → Result AnnounceDecideResult Refusal
 decided t = announce_decide t.clock.count t.clock.announced t.clock.overflow t.clock.tick
 
-unfoldable pub announced_by : Timer → AnnounceDecide → Announced
-announced_by t (D.Accepted d) = A.Accepted (announcement_from t d)
-announced_by t (D.Refused why) = A.Refused why
+unfoldable pub announced_by : Timer → Result AnnounceDecideResult Refusal → Result Announcement Refusal
+announced_by t (Ok d) = Ok (announcement_from t d)
+announced_by t (Err why) = Err why
 
 module _ (t : Timer) where
-  pub announce_malformed : well_formed t ≡ false → announce_of t ≡ A.Refused Invalid
+  pub announce_malformed : well_formed t ≡ false → announce_of t ≡ Err Invalid
   unfolding announce_of
   announce_malformed e = simp e
 
@@ -130,29 +101,22 @@ module _ (t : Timer) where
   unfolding announce_of announced_by announce_decide
   announce_decided e =
       rw e
-      (sym (carried (announced_by t) D.Refused (D.Accepted (announce_value t.clock.count t.clock.announced t.clock.overflow t.clock.tick))
+      (sym (carried (announced_by t) Err (Ok (announce_value t.clock.count t.clock.announced t.clock.overflow t.clock.tick))
       (announce_tests t.clock.count t.clock.announced t.clock.overflow t.clock.tick)))
 
 -- a setup that is not bad, from what the counter answered
-module _ (period tick : ℕ) (good : GoodSetup period tick) {answer : Ran} (p : answer ≡ started_of period) where
-  started : answer ≡ R.Accepted (fresh_counter period)
+module _ (period tick : ℕ) (good : GoodSetup period tick) {answer : Result Counter Refusal} (p : answer ≡ started_of period) where
+  started : answer ≡ Ok (fresh_counter period)
   started = let facts = setup_facts period tick good in p ∙ started_good period (good_of_bounds period facts.least facts.most)
 
-  pub start_given : {counter : Counter} → answer ≡ R.Accepted counter → counter ≡ fresh_counter period
-  start_given q = cc (started)
-
-  pub never_refused : {why : Refusal} → answer ≡ R.Refused why → ⊥
+  pub never_refused : {why : Refusal} → answer ≡ Err why → ⊥
   never_refused q = clash (cc (started))
 
 -- an announcement, from what the leaf answered
-module _ (t : Timer) (formed : well_formed t ≡ true) {answer : AnnounceDecide} (p : answer ≡ decided t) where
+module _ (t : Timer) (formed : well_formed t ≡ true) {answer : Result AnnounceDecideResult Refusal} (p : answer ≡ decided t) where
   by_answer : announce_of t ≡ announced_by t answer
   by_answer = announce_decided t formed ∙ ap (announced_by t) (sym p)
 
-  pub announce_refused : {why handed-on : Refusal} → answer ≡ D.Refused why → handed-on ≡ announce_decide_why answer → A.Refused handed-on ≡ announce_of t
-  unfolding announced_by announce_decide_why
-  announce_refused q r = ap A.Refused (r ∙ ap announce_decide_why q) ∙ sym (by_answer ∙ ap (announced_by t) q)
-
-  pub announce_accepted : {d : AnnounceDecideResult} {made : Announcement} → answer ≡ D.Accepted d → made ≡ announcement_from t d → A.Accepted made ≡ announce_of t
+  pub announce_accepted : {d : AnnounceDecideResult} {made : Announcement} → answer ≡ Ok d → made ≡ announcement_from t d → Ok made ≡ announce_of t
   unfolding announced_by
-  announce_accepted q m = ap A.Accepted m ∙ sym (by_answer ∙ ap (announced_by t) q)
+  announce_accepted q m = ap Ok m ∙ sym (by_answer ∙ ap (announced_by t) q)

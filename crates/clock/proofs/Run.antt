@@ -1,24 +1,22 @@
 -- Runs of counter and clock from setup: cycles, samples and announcements, refused ones included. Demand 3's own onlooker,
+use Rattle.std.specs.Prelude.{Result, Ok, Err}
 -- who sees whole traces, is demands/specs/Trace.antt; this one carries its proof.
 use Prim.Native.Nat.{ℕ, ◌+◌, ◌≤◌, ◌<◌}
 use mathlib.Core.Path.{◌≡◌}
 use mathlib.Core.List.{List, [], ◌∷◌}
 use mathlib.Core.Bool.{cond}
 use Rattle.counter.specs.declared.Counter.{Counter}
-use Rattle.counter.specs.declared.Ran.{Ran}
-use Rattle.counter.specs.declared.Ran.TheVariants as R
 use Rattle.counter.specs.Cycle.{wraps, cleared}
 use Rattle.counter.specs.Entries.{ran_of}
 use Rattle.clock.specs.declared.Timer.{Timer}
-use Rattle.clock.specs.declared.Gaps.{Gaps}
-use Rattle.clock.specs.declared.Sampled.{Sampled}
-use Rattle.clock.specs.declared.Sampled.TheVariants as S
-use Rattle.clock.specs.declared.Announced.{Announced}
-use Rattle.clock.specs.declared.Announced.TheVariants as A
+use Rattle.counter.specs.declared.Gaps.{Gaps}
 use Rattle.clock.specs.Timer.{setup}
 use Rattle.clock.specs.Entries.{sample_of}
 use Rattle.clock.specs.Announce.{announce_of}
 use Rattle.clock.proofs.Stretches.{at_b, at_c}
+use Rattle.clock.specs.declared.Announcement.{Announcement}
+use Rattle.error.specs.declared.Refusal.{Refusal}
+use Rattle.clock.specs.declared.SampleTaken.{SampleTaken}
 
 pub data Event : Type 0 where
   run : ℕ → Event
@@ -45,8 +43,8 @@ abbrev pub wraps_ac : Counter → Gaps → ℕ
 wraps_ac a g = wraps g.p a + wraps g.q (cleared (at_b a g))
 
 -- what the entries answer is what happens next; a refusal changes nothing
-abbrev pub after_run : World → ℕ → Ran → World
-after_run w n (R.Accepted counter) = record {
+abbrev pub after_run : World → ℕ → Result Counter Refusal → World
+after_run w n (Ok counter) = record {
   timer = record { counter = counter; clock = w.timer.clock };
   before = w.before;
   since = w.since + wraps n w.timer.counter;
@@ -55,10 +53,10 @@ after_run w n (R.Accepted counter) = record {
   read = w.read;
   told = w.told;
 }
-after_run w n (R.Refused why) = w
+after_run w n (Err why) = w
 
-abbrev pub after_sample : World → Gaps → Sampled → World
-after_sample w g (S.Accepted taken) = record {
+abbrev pub after_sample : World → Gaps → Result SampleTaken Refusal → World
+after_sample w g (Ok taken) = record {
   timer = taken.timer;
   before = w.before + w.since + wraps_ac w.timer.counter g;
   since = wraps g.r (at_c w.timer.counter g);
@@ -67,11 +65,11 @@ after_sample w g (S.Accepted taken) = record {
   read = taken.reading.0;
   told = w.told;
 }
-after_sample w g (S.Refused why) = w
+after_sample w g (Err why) = w
 
-abbrev pub after_announce : World → Announced → World
-after_announce w (A.Accepted announcement) = record { timer = announcement.timer; before = w.before; since = w.since; cycles_c = w.cycles_c; seen = w.seen; read = w.read; told = w.told + announcement.dticks.0 }
-after_announce w (A.Refused why) = w
+abbrev pub after_announce : World → Result Announcement Refusal → World
+after_announce w (Ok announcement) = record { timer = announcement.timer; before = w.before; since = w.since; cycles_c = w.cycles_c; seen = w.seen; read = w.read; told = w.told + announcement.dticks.0 }
+after_announce w (Err why) = w
 
 unfoldable pub step : Event → World → World
 step (run n) w = after_run w n (ran_of w.timer.counter n)
@@ -89,9 +87,9 @@ pub record FairHere (since : ℕ) (t : Timer) (g : Gaps) : Type 0 where
   pub none_to_d : 1 ≤ since + wraps_ac t.counter g → wraps g.r (at_c t.counter g) ≡ 0
 
 -- an event is fair unless it is a sample that breaks a premise; a refused sample touches nothing, so nothing is asked of it
-abbrev pub FairIf : World → Gaps → Sampled → Type 0
-FairIf w g (S.Accepted taken) = FairHere w.since w.timer g
-FairIf w g (S.Refused why) = Unit {0}
+abbrev pub FairIf : World → Gaps → Result SampleTaken Refusal → Type 0
+FairIf w g (Ok taken) = FairHere w.since w.timer g
+FairIf w g (Err why) = Unit {0}
 
 abbrev pub FairEvent : Event → World → Type 0
 FairEvent (run n) w = Unit {0}

@@ -1,12 +1,11 @@
 -- Every run from setup: what its events keep, carried along the list, gives what Holds states.
+use Rattle.std.specs.Prelude.{Result}
 use Prim.Native.Nat.{ℕ, ◌+◌, ◌-◌, ◌*◌, ◌/◌, ◌≤◌}
 use native.Mathlib.Omega.{arith}
 use native.Mathlib.Nat.{add-mul, zero-mul, zero-mod, mul-div_cancel}
 use mathlib.Core.Path.{◌≡◌, refl, sym, ap, ◌∙◌}
 use mathlib.Core.List.{List, [], ◌∷◌}
-use Rattle.counter.specs.declared.Ran.{Ran}
-use Rattle.clock.specs.declared.Sampled.{Sampled}
-use Rattle.clock.specs.declared.Announced as declared
+use Rattle.clock.specs.declared.Announcement.{Announcement}
 use Rattle.clock.proofs.Run.{World, Event, run, sample, announce, start, step, after, after_run, after_sample, after_announce, FairRun, FairEvent, FairIf}
 use Rattle.clock.specs.Timer.{GoodSetup}
 use Rattle.clock.proofs.Holds.{NeverAhead, AnnouncedIn, EveryRun}
@@ -16,6 +15,9 @@ use Rattle.clock.proofs.Accounts as accounts
 use Rattle.clock.proofs.Accounts.{Accounts}
 use Rattle.clock.proofs.Faithful as faithful
 use Rattle.clock.proofs.Faithful.{Faithful}
+use Rattle.counter.specs.declared.Counter.{Counter}
+use Rattle.error.specs.declared.Refusal.{Refusal}
+use Rattle.clock.specs.declared.SampleTaken.{SampleTaken}
 
 -- what a run keeps with no premises, for the tick it was set up with
 pub record Kept (l tick : ℕ) (w : World) : Type 0 where
@@ -28,15 +30,15 @@ pub record Kept (l tick : ℕ) (w : World) : Type 0 where
 step_keeps : (l tick : ℕ) (e : Event) (w : World) → Kept l tick w → Kept l tick (step e w)
 unfolding step
 step_keeps l tick (run n) w k =
-    ran_by w.timer.counter n (λ (o : Ran). Kept l tick (after_run w n o))
+    ran_by w.timer.counter n (λ (o : Result Counter Refusal). Kept l tick (after_run w n o))
     (λ why. k)
     (λ ranged fits. record { accounts = accounts.run_keeps l w.seen w.timer k.accounts n fits; same_tick = k.same_tick; last = k.last; told = k.told; never_ahead = k.never_ahead })
 step_keeps l tick (sample g) w k =
-    sampled_by w.timer g (λ (o : Sampled). Kept l tick (after_sample w g o))
+    sampled_by w.timer g (λ (o : Result SampleTaken Refusal). Kept l tick (after_sample w g o))
     (λ why. k)
     (λ let_through. record { accounts = accounts.sample_keeps l w.seen w.timer k.accounts g let_through _ refl; same_tick = k.same_tick; last = refl; told = k.told; never_ahead = accounts.never_ahead l w.seen w.timer k.accounts g })
 step_keeps l tick announce w k =
-    announced_by w.timer (λ (o : declared.Announced). Kept l tick (after_announce w o))
+    announced_by w.timer (λ (o : Result Announcement Refusal). Kept l tick (after_announce w o))
     (λ why. k)
     (λ let_through. record { accounts = accounts.announce_keeps l w.seen w.timer k.accounts; same_tick = k.same_tick; last = k.last; told = rw k.same_tick (omega (arith, k.told, add-mul w.told ((w.timer.clock.count.0 + w.timer.clock.overflow - w.timer.clock.announced.0) / tick) tick)); never_ahead = k.never_ahead })
 
@@ -51,16 +53,16 @@ FaithfulWorld l w = Faithful l w.before w.since w.timer × (w.read ≡ w.cycles_
 fair_step : (l : ℕ) (e : Event) (w : World) → FaithfulWorld l w → FairEvent e w → FaithfulWorld l (step e w)
 unfolding step FaithfulWorld
 fair_step l (run n) w k fair =
-    ran_by w.timer.counter n (λ (o : Ran). FaithfulWorld l (after_run w n o))
+    ran_by w.timer.counter n (λ (o : Result Counter Refusal). FaithfulWorld l (after_run w n o))
     (λ why. k)
     (λ ranged fits. (faithful.run_keeps l w.before w.since w.timer k.0 n, k.1))
 fair_step l (sample g) w k fair =
-    sampled_by w.timer g (λ (o : Sampled). FairIf w g o → FaithfulWorld l (after_sample w g o))
+    sampled_by w.timer g (λ (o : Result SampleTaken Refusal). FairIf w g o → FaithfulWorld l (after_sample w g o))
     (λ why nothing. k)
     (λ let_through premises. (faithful.sample_keeps l w.before w.since w.timer k.0 g premises, faithful.exact l w.before w.since w.timer k.0 g premises))
     fair
 fair_step l announce w k fair =
-    announced_by w.timer (λ (o : declared.Announced). FaithfulWorld l (after_announce w o))
+    announced_by w.timer (λ (o : Result Announcement Refusal). FaithfulWorld l (after_announce w o))
     (λ why. k)
     (λ let_through. (faithful.announce_keeps l w.before w.since w.timer k.0, k.1))
 

@@ -9,12 +9,8 @@ use Rattle.counter.specs.Cycle.{cleared}
 use Rattle.counter.specs.Readings.{readings_from}
 use Rattle.clock.specs.declared.Clock.{Clock}
 use Rattle.clock.specs.declared.Timer.{Timer}
-use Rattle.clock.specs.declared.Gaps.{Gaps}
+use Rattle.counter.specs.declared.Gaps.{Gaps}
 use Rattle.clock.specs.declared.SampleTaken.{SampleTaken}
-
--- all the cycles of a sample, r too where no D follows
-abbrev pub cycles_of : Gaps → ℕ
-cycles_of g = g.p + g.q + g.r
 
 -- the flag at B, v at C, and the counter r cycles after it
 abbrev pub readings : Timer → Gaps → SampleReadings

@@ -1,17 +1,17 @@
 // 01's clock over the counter: setup, a sample and an announcement, each tested before anything is touched.
 #![tactic(auto)]
 
-ghost use Rattle.std.specs.Prelude.{◌≡◌, cond, ◌+◌, ◌≤◌, leb};
+ghost use Rattle.std.specs.Prelude.{◌≡◌, cond, ◌+◌, ◌≤◌, leb, Ok};
 ghost use Rattle.counter.specs.Cycle.{cleared};
 ghost use Rattle.clock.specs.Timer.{bad_setup, accounted_for, well_formed};
 ghost use Rattle.clock.specs.Entries.{set_up, sample_of, Ready};
-ghost use Rattle.clock.specs.Sample.{cycles_of, crowded, sample_value, taken_from};
+ghost use Rattle.clock.specs.Sample.{crowded, sample_value, taken_from};
 ghost use Rattle.clock.specs.Announce.{announce_of, announcement_from};
-ghost use Rattle.clock.specs.Says.{set_up_says, set_up_why, sampled_says, sampled_why, announced_says, announced_why};
 
-use counter::{Counter, Ran, SampleRead};
+use counter::Counter;
+pub use counter::Gaps;
 use error::Refusal;
-use systick::{AnnounceDecide, AnnounceDecideResult, ElapsedDecide, ElapsedDecideResult};
+use systick::{AnnounceDecideResult, ElapsedDecideResult};
 use units::{Cycles, Ticks};
 
 #[derive(Clone, Copy)]
@@ -34,29 +34,6 @@ pub struct Timer {
     pub clock: Clock,
 }
 
-// Cycles from A to B, from B to C, and from C to D.
-#[derive(Clone, Copy)]
-pub struct Gaps {
-    pub p: u32,
-    pub q: u32,
-    pub r: u32,
-}
-
-impl Gaps {
-    // All its cycles as one number.
-    pub fn whole(self) -> u64
-        ensures { result ≡ cycles_of self }
-    {
-        counter::sample_cycles(self.p, self.q, self.r)
-    }
-}
-
-#[derive(Clone, Copy)]
-pub enum SetUp {
-    Accepted(Timer),
-    Refused(Refusal),
-}
-
 #[derive(Clone, Copy)]
 pub struct SampleTaken {
     pub elapsed: u32,
@@ -66,21 +43,9 @@ pub struct SampleTaken {
 }
 
 #[derive(Clone, Copy)]
-pub enum Sampled {
-    Accepted(SampleTaken),
-    Refused(Refusal),
-}
-
-#[derive(Clone, Copy)]
 pub struct Announcement {
     pub dticks: Ticks,
     pub timer: Timer,
-}
-
-#[derive(Clone, Copy)]
-pub enum Announced {
-    Accepted(Announcement),
-    Refused(Refusal),
 }
 
 // Whether a setup has a period out of range or no tick.
@@ -90,17 +55,14 @@ pub fn bad_setup(period: u32, tick: u32) -> bool
     !(counter::good_period(period) & (tick != 0))
 }
 
-#[tactic(auto, unfolding(crate::specs::Entries::set_up))]
-pub fn set_up(period: u32, tick: u32) -> SetUp
+#[tactic(auto, unfolding(crate::specs::Entries::set_up, counter::specs::Entries::started_of))]
+pub fn set_up(period: u32, tick: u32) -> Result<Timer, Refusal>
     ensures { result ≡ set_up period tick }
 {
     if bad_setup(period, tick) {
-        return SetUp::Refused(Refusal::Invalid);
+        return Err(Refusal::Invalid);
     }
-    let started = counter::started(period);
-    let Ran::Accepted(counter) = started else {
-        return SetUp::Refused(started.refusal());
-    };
+    let counter = counter::started(period)?;
     let clock = Clock {
         tick: tick,
         count: Cycles(0),
@@ -108,7 +70,7 @@ pub fn set_up(period: u32, tick: u32) -> SetUp
         overflow: 0,
         last: Cycles(0),
     };
-    SetUp::Accepted(Timer {
+    Ok(Timer {
         counter: counter,
         clock: clock,
     })
@@ -145,7 +107,7 @@ fn behind(timer: Timer) -> bool
     sum_within(clock.count.0, part, counter.cycles.0)
 }
 
-#[tactic(auto, unfolding(crate::specs::Timer::well_formed))]
+#[tactic(auto, using(counter::proofs::Outcomes::valid_of), unfolding(crate::specs::Timer::well_formed))]
 pub fn well_formed(timer: Timer) -> bool
     ensures { result ≡ well_formed timer }
 {
@@ -194,39 +156,34 @@ fn sample_taken(clock: Clock, d: ElapsedDecideResult, reading: u64, counter: Cou
 }
 
 // A to D. The tests before it leave no refusal: each is handed on all the same, and proved not to come.
-fn taken(timer: Timer, gaps: Gaps) -> Sampled
+#[tactic(auto, using(crate::proofs::Sampling::reads, crate::proofs::Sampling::from_read, crate::proofs::Sampling::sum_fits, crate::proofs::Sampling::taken_is))]
+fn taken(timer: Timer, gaps: Gaps) -> Result<SampleTaken, Refusal>
     requires { Ready timer gaps }
-    ensures { result ≡ Sampled.Accepted (sample_value timer gaps) }
+    ensures { result ≡ Ok (sample_value timer gaps) }
 {
     let a = timer.counter;
     let clock = timer.clock;
-    let answer = counter::readings(a, gaps.p, gaps.q, gaps.r);
-    let SampleRead::Accepted(read) = answer else {
-        return Sampled::Refused(answer.refusal());
-    };
-    let decided = systick::elapsed_decide(a.value, read.value, read.flag, a.period, clock.overflow);
-    let ElapsedDecide::Accepted(d) = decided else {
-        return Sampled::Refused(decided.refusal());
-    };
+    let read = counter::readings(a, gaps)?;
+    let d = systick::elapsed_decide(a.value, read.value, read.flag, a.period, clock.overflow)?;
     let reading = clock.count.0 + d.elapsed as u64;
-    Sampled::Accepted(sample_taken(clock, d, reading, settled(d.wrap_detected, read.after)))
+    Ok(sample_taken(clock, d, reading, settled(d.wrap_detected, read.after)))
 }
 
-#[tactic(auto, unfolding(crate::specs::Entries::sample_of))]
-pub fn sample(timer: Timer, gaps: Gaps) -> Sampled
+#[tactic(auto, using(crate::proofs::Outcomes::ready), unfolding(crate::specs::Entries::sample_of))]
+pub fn sample(timer: Timer, gaps: Gaps) -> Result<SampleTaken, Refusal>
     ensures { result ≡ sample_of timer gaps }
 {
     if well_formed(timer) {
         let counter = timer.counter;
         if crowded(timer) {
-            return Sampled::Refused(Refusal::Again);
+            return Err(Refusal::Again);
         }
         if counter.cycles_above(gaps.whole()) {
-            return Sampled::Refused(Refusal::Overflow);
+            return Err(Refusal::Overflow);
         }
         return taken(timer, gaps);
     }
-    Sampled::Refused(Refusal::Invalid)
+    Err(Refusal::Invalid)
 }
 
 // What an announcement answers, and the state that it leaves.
@@ -251,121 +208,16 @@ fn announcement_made(timer: Timer, d: AnnounceDecideResult) -> Announcement
     }
 }
 
-#[tactic(auto, unfolding(crate::specs::Announce::announce_of))]
-pub fn announce(timer: Timer) -> Announced
+#[tactic(auto, unfolding(crate::specs::Announce::announce_of, systick::specs::Leaves::announce_decide))]
+pub fn announce(timer: Timer) -> Result<Announcement, Refusal>
     ensures { result ≡ announce_of timer }
 {
     if well_formed(timer) {
         let clock = timer.clock;
         let count = clock.count;
         let announced = clock.announced;
-        let decided = systick::announce_decide(count, announced, clock.overflow, clock.tick);
-        let AnnounceDecide::Accepted(d) = decided else {
-            return Announced::Refused(decided.refusal());
-        };
-        return Announced::Accepted(announcement_made(timer, d));
+        let d = systick::announce_decide(count, announced, clock.overflow, clock.tick)?;
+        return Ok(announcement_made(timer, d));
     }
-    Announced::Refused(Refusal::Invalid)
-}
-
-#[tactic(auto, unfolding(crate::specs::Says::set_up_says, crate::specs::Says::set_up_why))]
-impl SetUp {
-    pub fn number(self) -> i32
-        ensures { result ≡ (set_up_says self).number }
-    {
-        match self {
-            SetUp::Accepted(_) => error::OK,
-            SetUp::Refused(why) => why.number(),
-        }
-    }
-
-    // For whoever has found it refused.
-    pub fn refusal(self) -> Refusal
-        ensures { result ≡ set_up_why self }
-    {
-        match self {
-            SetUp::Accepted(_) => Refusal::Invalid,
-            SetUp::Refused(why) => why,
-        }
-    }
-}
-
-#[tactic(auto, unfolding(crate::specs::Says::sampled_says, crate::specs::Says::sampled_why))]
-impl Sampled {
-    pub fn number(self) -> i32
-        ensures { result ≡ (sampled_says self).number }
-    {
-        match self {
-            Sampled::Accepted(_) => error::OK,
-            Sampled::Refused(why) => why.number(),
-        }
-    }
-
-    // For whoever has found it refused.
-    pub fn refusal(self) -> Refusal
-        ensures { result ≡ sampled_why self }
-    {
-        match self {
-            Sampled::Accepted(_) => Refusal::Invalid,
-            Sampled::Refused(why) => why,
-        }
-    }
-
-    pub fn elapsed(self) -> u32
-        ensures { result ≡ (sampled_says self).value.elapsed }
-    {
-        match self {
-            Sampled::Accepted(taken) => taken.elapsed,
-            Sampled::Refused(_) => 0,
-        }
-    }
-
-    pub fn wrap(self) -> bool
-        ensures { result ≡ (sampled_says self).value.wrap }
-    {
-        match self {
-            Sampled::Accepted(taken) => taken.wrap,
-            Sampled::Refused(_) => false,
-        }
-    }
-
-    pub fn reading(self) -> Cycles
-        ensures { result ≡ (sampled_says self).value.reading }
-    {
-        match self {
-            Sampled::Accepted(taken) => taken.reading,
-            Sampled::Refused(_) => Cycles(0),
-        }
-    }
-}
-
-#[tactic(auto, unfolding(crate::specs::Says::announced_says, crate::specs::Says::announced_why))]
-impl Announced {
-    pub fn number(self) -> i32
-        ensures { result ≡ (announced_says self).number }
-    {
-        match self {
-            Announced::Accepted(_) => error::OK,
-            Announced::Refused(why) => why.number(),
-        }
-    }
-
-    // For whoever has found it refused.
-    pub fn refusal(self) -> Refusal
-        ensures { result ≡ announced_why self }
-    {
-        match self {
-            Announced::Accepted(_) => Refusal::Invalid,
-            Announced::Refused(why) => why,
-        }
-    }
-
-    pub fn dticks(self) -> Ticks
-        ensures { result ≡ (announced_says self).value.dticks }
-    {
-        match self {
-            Announced::Accepted(announcement) => announcement.dticks,
-            Announced::Refused(_) => Ticks(0),
-        }
-    }
+    Err(Refusal::Invalid)
 }

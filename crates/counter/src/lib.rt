@@ -5,8 +5,7 @@ ghost use Rattle.std.specs.Prelude.{◌≡◌, ◌+◌, ◌≤◌};
 ghost use Rattle.error.specs.Numbers.{max64};
 ghost use Rattle.counter.specs.Cycle.{run_n, cleared};
 ghost use Rattle.counter.specs.Entries.{started_of, ran_of, readings_of, value_of};
-ghost use Rattle.counter.specs.Readings.{good_period, in_range, cycles_above};
-ghost use Rattle.counter.specs.Says.{ran_says, ran_why, sample_read_says, sample_read_why, value_says};
+ghost use Rattle.counter.specs.Readings.{good_period, in_range, cycles_above, cycles_of};
 ghost use Rattle.counter.specs.Valid.{Valid};
 
 use error::Refusal;
@@ -24,13 +23,6 @@ pub struct Counter {
     pub cycles: Cycles,
 }
 
-// A counter that was started or run, or the reason why not.
-#[derive(Clone, Copy)]
-pub enum Ran {
-    Accepted(Counter),
-    Refused(Refusal),
-}
-
 #[tactic(auto, unfolding(crate::specs::Readings::good_period))]
 pub fn good_period(period: u32) -> bool
     ensures { result ≡ good_period period }
@@ -40,18 +32,18 @@ pub fn good_period(period: u32) -> bool
 
 // A counter as setup makes it: at its period, the flag clear, nothing run.
 #[tactic(auto, unfolding(crate::specs::Entries::started_of))]
-pub fn started(period: u32) -> Ran
+pub fn started(period: u32) -> Result<Counter, Refusal>
     ensures { result ≡ started_of period }
 {
     if good_period(period) {
-        return Ran::Accepted(Counter {
+        return Ok(Counter {
             period: period,
             value: period,
             flag: false,
             cycles: Cycles(0),
         });
     }
-    Ran::Refused(Refusal::Invalid)
+    Err(Refusal::Invalid)
 }
 
 impl Counter {
@@ -111,52 +103,16 @@ fn advanced(counter: Counter, n: u32) -> Counter
 }
 
 #[tactic(auto, unfolding(crate::specs::Entries::ran_of))]
-pub fn run(counter: Counter, n: u32) -> Ran
+pub fn run(counter: Counter, n: u32) -> Result<Counter, Refusal>
     ensures { result ≡ ran_of counter n }
 {
     if counter.in_range() {
         if counter.cycles_above(n as u64) {
-            return Ran::Refused(Refusal::Overflow);
+            return Err(Refusal::Overflow);
         }
-        return Ran::Accepted(advanced(counter, n));
+        return Ok(advanced(counter, n));
     }
-    Ran::Refused(Refusal::Invalid)
-}
-
-#[tactic(auto, unfolding(crate::specs::Says::ran_says, crate::specs::Says::ran_why))]
-impl Ran {
-    pub fn number(self) -> i32
-        ensures { result ≡ (ran_says self).number }
-    {
-        match self {
-            Ran::Accepted(_) => error::OK,
-            Ran::Refused(why) => why.number(),
-        }
-    }
-
-    pub fn counter(self) -> Counter
-        ensures { result ≡ (ran_says self).value }
-    {
-        match self {
-            Ran::Accepted(counter) => counter,
-            Ran::Refused(_) => Counter {
-                period: 0,
-                value: 0,
-                flag: false,
-                cycles: Cycles(0),
-            },
-        }
-    }
-
-    // For whoever has found it refused.
-    pub fn refusal(self) -> Refusal
-        ensures { result ≡ ran_why self }
-    {
-        match self {
-            Ran::Accepted(_) => Refusal::Invalid,
-            Ran::Refused(why) => why,
-        }
-    }
+    Err(Refusal::Invalid)
 }
 
 // What a sample reads: the flag at B, the value at C, and the counter r cycles after C, before D.
@@ -167,103 +123,58 @@ pub struct SampleReadings {
     pub after: Counter,
 }
 
+// Cycles from A to B, from B to C, and from C to D.
 #[derive(Clone, Copy)]
-pub enum SampleRead {
-    Accepted(SampleReadings),
-    Refused(Refusal),
+pub struct Gaps {
+    pub p: u32,
+    pub q: u32,
+    pub r: u32,
 }
 
-// All the cycles of a sample as one number: three of 32 bits can't pass 64.
-pub fn sample_cycles(p: u32, q: u32, r: u32) -> u64
-    ensures { result ≡ p + q + r }
-{
-    p as u64 + q as u64 + r as u64
+impl Gaps {
+    // All its cycles as one number: three of 32 bits can't pass 64.
+    pub fn whole(self) -> u64
+        ensures { result ≡ cycles_of self }
+    {
+        self.p as u64 + self.q as u64 + self.r as u64
+    }
 }
 
 // A sample's readings: p cycles to B, whose reading clears the flag, q to C, and r more. All are tested first, so that
 // nothing is refused once the flag is gone.
 #[tactic(auto, unfolding(crate::specs::Entries::readings_of))]
-pub fn readings(counter: Counter, p: u32, q: u32, r: u32) -> SampleRead
-    ensures { result ≡ readings_of counter p q r }
+pub fn readings(counter: Counter, gaps: Gaps) -> Result<SampleReadings, Refusal>
+    ensures { result ≡ readings_of counter gaps.p gaps.q gaps.r }
 {
     if counter.in_range() {
-        if counter.cycles_above(sample_cycles(p, q, r)) {
-            return SampleRead::Refused(Refusal::Overflow);
+        if counter.cycles_above(gaps.whole()) {
+            return Err(Refusal::Overflow);
         }
-        let b = advanced(counter, p);
+        let b = advanced(counter, gaps.p);
         let read = b.cleared();
-        let c = advanced(read, q);
-        return SampleRead::Accepted(SampleReadings {
+        let c = advanced(read, gaps.q);
+        return Ok(SampleReadings {
             flag: b.flag,
             value: c.value,
-            after: advanced(c, r),
+            after: advanced(c, gaps.r),
         });
     }
-    SampleRead::Refused(Refusal::Invalid)
-}
-
-#[tactic(auto, unfolding(crate::specs::Says::sample_read_says, crate::specs::Says::sample_read_why))]
-impl SampleRead {
-    pub fn number(self) -> i32
-        ensures { result ≡ (sample_read_says self).number }
-    {
-        match self {
-            SampleRead::Accepted(_) => error::OK,
-            SampleRead::Refused(why) => why.number(),
-        }
-    }
-
-    // For whoever has found it refused.
-    pub fn refusal(self) -> Refusal
-        ensures { result ≡ sample_read_why self }
-    {
-        match self {
-            SampleRead::Accepted(_) => Refusal::Invalid,
-            SampleRead::Refused(why) => why,
-        }
-    }
-}
-
-#[derive(Clone, Copy)]
-pub enum ValueRead {
-    Accepted(u32),
-    Refused(Refusal),
+    Err(Refusal::Invalid)
 }
 
 // 01's v of what the value register holds: the register shows 0 for the one cycle in which v is the period.
 #[tactic(auto, unfolding(crate::specs::Entries::value_of))]
-pub fn value_of(raw: u32, load: u32) -> ValueRead
+pub fn value_of(raw: u32, load: u32) -> Result<u32, Refusal>
     ensures { result ≡ value_of raw load }
 {
     if good_period(load) {
         if load <= raw {
-            return ValueRead::Refused(Refusal::Invalid);
+            return Err(Refusal::Invalid);
         }
         if raw == 0 {
-            return ValueRead::Accepted(load);
+            return Ok(load);
         }
-        return ValueRead::Accepted(raw);
+        return Ok(raw);
     }
-    ValueRead::Refused(Refusal::Invalid)
-}
-
-#[tactic(auto, unfolding(crate::specs::Says::value_says))]
-impl ValueRead {
-    pub fn number(self) -> i32
-        ensures { result ≡ (value_says self).number }
-    {
-        match self {
-            ValueRead::Accepted(_) => error::OK,
-            ValueRead::Refused(why) => why.number(),
-        }
-    }
-
-    pub fn value(self) -> u32
-        ensures { result ≡ (value_says self).value }
-    {
-        match self {
-            ValueRead::Accepted(value) => value,
-            ValueRead::Refused(_) => 0,
-        }
-    }
+    Err(Refusal::Invalid)
 }

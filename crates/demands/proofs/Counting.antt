@@ -1,25 +1,26 @@
 -- The clock's onlooker counts as 01's counter does, run from setup and never looked at.
+use Rattle.std.specs.Prelude.{Result, Ok}
 use Prim.Native.Nat.{ℕ, ◌+◌, ◌/◌, ◌<◌}
 use mathlib.Core.Path.{◌≡◌, refl, sym, ap, ◌∙◌, subst}
 use mathlib.Core.Bool.{Bool, true, false, cond}
 use native.Mathlib.Omega.{arith}
 use Rattle.counter.specs.declared.Counter.{Counter}
-use Rattle.counter.specs.declared.Ran.TheVariants as R
 use Rattle.counter.specs.Cycle.{fresh_counter, run_n, wraps, cleared}
 use Rattle.counter.specs.Entries.{ran_of}
 use Rattle.counter.proofs.Cycles.{wraps_div}
 use Rattle.counter.proofs.Running.{Alike, clearing, alike_run, alike_wraps, run_on, wraps_on, cycles_run, period_run}
-use Rattle.clock.specs.declared.Gaps.{Gaps}
-use Rattle.clock.specs.declared.Sampled.TheVariants as S
-use Rattle.clock.specs.declared.Announced.{Announced}
+use Rattle.counter.specs.declared.Gaps.{Gaps}
 use Rattle.clock.specs.Timer.{GoodSetup}
-use Rattle.clock.specs.Sample.{cycles_of, decision, sample_value}
+use Rattle.counter.specs.Readings.{cycles_of}
+use Rattle.clock.specs.Sample.{decision, sample_value}
 use Rattle.clock.specs.Entries.{sample_of}
 use Rattle.clock.proofs.Outcomes.{setup_facts}
 use Rattle.clock.proofs.Stretches.{at_b, at_c}
 use Rattle.clock.proofs.Run as clock
 use Rattle.clock.proofs.Steps.{announced_by}
 use Rattle.demands.specs.Trace.{time_c, wraps_by, FairSample}
+use Rattle.clock.specs.declared.Announcement.{Announcement}
+use Rattle.error.specs.declared.Refusal.{Refusal}
 
 pub record Tracks (period ran at_c : ℕ) (x : clock.World) : Type 0 where
   pub alike : Alike x.timer.counter (run_n ran (fresh_counter period))
@@ -45,7 +46,7 @@ module _ (period : ℕ) where
     pub period_is : a.period ≡ period
     period_is = k.alike.period ∙ period_run ran (fresh_counter period)
 
-    pub tracks_run : (n : ℕ) → ran_of a n ≡ R.Accepted (run_n n a) → Tracks period (ran + n) last (clock.step (clock.run n) x)
+    pub tracks_run : (n : ℕ) → ran_of a n ≡ Ok (run_n n a) → Tracks period (ran + n) last (clock.step (clock.run n) x)
     unfolding clock.step
     tracks_run n accepted =
         let all = k.wraps_all in
@@ -55,7 +56,7 @@ module _ (period : ℕ) where
     pub tracks_announce : Tracks period ran last (clock.step clock.announce x)
     unfolding clock.step
     tracks_announce =
-        announced_by x.timer (λ (o : Announced). Tracks period ran last (clock.after_announce x o)) (λ why. k)
+        announced_by x.timer (λ (o : Result Announcement Refusal). Tracks period ran last (clock.after_announce x o)) (λ why. k)
         (λ let_through. record { alike = k.alike; at_c_is = k.at_c_is; before = k.before; wraps_all = k.wraps_all })
 
     module _ (g : Gaps) where
@@ -92,7 +93,7 @@ module _ (period : ℕ) where
       left true = clearing to_d
       left false = to_d
 
-      pub tracks_sample : sample_of x.timer g ≡ S.Accepted (sample_value x.timer g) → Tracks period (ran + cycles_of g) (time_c ran g) (clock.step (clock.sample g) x)
+      pub tracks_sample : sample_of x.timer g ≡ Ok (sample_value x.timer g) → Tracks period (ran + cycles_of g) (time_c ran g) (clock.step (clock.sample g) x)
       unfolding clock.step
       tracks_sample accepted =
           let all = k.wraps_all in

@@ -1,4 +1,5 @@
 -- Demand 1: what no run from setup meets, that in a fair run no sum is refused, and that no record changes how many threads there are.
+use Rattle.std.specs.Prelude.{Ok, Err}
 use Prim.Native.Nat.{ℕ, ◌+◌, ◌≤◌, ◌<◌}
 use mathlib.Core.Path.{◌≡◌, refl, sym, ap, ◌∙◌}
 use mathlib.Core.Bool.{Bool, true, false, cond, not, ◌&&◌, ◌||◌}
@@ -12,10 +13,10 @@ use Rattle.error.proofs.Tests.{clash}
 use Rattle.error.proofs.Ordered.{by_outcome}
 use Rattle.error.specs.InOrder.{FirstIs, NoneHolds}
 use Rattle.error.specs.Numbers.{max32, max64}
-use Rattle.clock.specs.declared.Gaps.{Gaps}
+use Rattle.counter.specs.declared.Gaps.{Gaps}
 use Rattle.clock.specs.declared.Timer.{Timer}
 use Rattle.clock.specs.Timer.{GoodSetup}
-use Rattle.clock.specs.Sample.{cycles_of}
+use Rattle.counter.specs.Readings.{cycles_of}
 use Rattle.clock.proofs.Run as clock
 use Rattle.clock.proofs.Runs as clock-runs
 use Rattle.books.specs.declared.Operation.{Operation}
@@ -29,14 +30,12 @@ use Rattle.ledger.proofs.Agreeing as ledger-runs
 use Rattle.ledger.proofs.Fitting.{sums_fit}
 use Rattle.trace.specs.declared.Record.{Record}
 use Rattle.trace.specs.declared.Record.TheVariants as K
-use Rattle.trace.specs.declared.Decoded.{Decoded}
-use Rattle.trace.specs.declared.Decoded.TheVariants as D
+use Rattle.trace.specs.Decode.{Decoded}
 use Rattle.trace.proofs.Bytes.{decodes}
 use Rattle.usage.specs.Formulas.{new_idle}
 use Rattle.machine.specs.declared.Machine.{Machine}
 use Rattle.machine.specs.declared.Stepped.{Stepped}
 use Rattle.table.specs.declared.Reason.TheVariants as Why
-use Rattle.table.specs.declared.Outcome.TheVariants as Told
 use Rattle.table.specs.declared.tasks.Task.{Task}
 use Rattle.table.specs.declared.tasks.Task.TheVariants as T
 use Rattle.table.specs.declared.tasks.Then.TheVariants as W
@@ -92,12 +91,12 @@ module _ {slots period tick : ℕ} (some : 0 < slots) (good : GoodSetup period t
     passed = record { good = refl; known = rw same.ready refl; first = rw same.ready refl; named = refl; free = refl; room = refl; fits = le-ltb max64 (w.machine.timer.counter.cycles.0 + 0) (let h = fits in omega arith) };
   }
 
-  none_holds : NoneHolds (rows_of w.machine (D.Accepted K.Announce))
+  none_holds : NoneHolds (rows_of w.machine (Ok K.Announce))
   unfolding record_rows last_rows announce_rows task_of
   none_holds = let a = announces some good w same in (whole, passed.none_holds _ _ (last_rows w.machine T.Announce) announce_touches.passed (rw a.1 tt))
 
   from_setup : FromSetup step_of period w
-  from_setup = record { ready = same.ready; whole = whole; announces = (every_refusal w.machine (D.Accepted K.Announce)).0.accepted.1 none_holds }
+  from_setup = record { ready = same.ready; whole = whole; announces = (every_refusal w.machine (Ok K.Announce)).0.accepted.1 none_holds }
 
 -- only the first of two tests can be a sum's, and it is not
 second_of : (a b : Bool) → a ≡ false → a || b ≡ true → b ≡ true
@@ -116,7 +115,7 @@ module _ {slots period tick : ℕ} (some : 0 < slots) (good : GoodSetup period t
   l = w.machine.ledger
 
   -- where an operation's last row holds, a count of windows is full
-  window_full : (g : Gaps) (op : Operation) → FairSample period w.ran w.at_c g → (stepping.task_step m (T.Sample g (W.Operate op))).outcome ≡ Told.Refused Why.WontFit → rises op (concerned_record l op).track_usage && eqb (concerned_record l op).num_windows max32 ≡ true
+  window_full : (g : Gaps) (op : Operation) → FairSample period w.ran w.at_c g → (stepping.task_step m (T.Sample g (W.Operate op))).outcome ≡ Err Why.WontFit → rises op (concerned_record l op).track_usage && eqb (concerned_record l op).num_windows max32 ≡ true
   unfolding full last_rows asked_by
   window_full g op fair e =
       let same = held.same in
@@ -132,7 +131,7 @@ module _ {slots period tick : ℕ} (some : 0 < slots) (good : GoodSetup period t
       holds (inr rest) = absurd rest.1
 
   -- what is no operation has no such row, and of the operations only enable a window
-  no_sum : (r : Record) → Fair period w.ran w.at_c (does_of r 0) → (stepping.task_step m (task_of r)).outcome ≡ Told.Refused Why.WontFit → FirstIs (last_rows m (task_of r)) Why.WontFit → (i : ℕ) × (g : Gaps) × (r ≡ K.Enable i g) × ((thread_record l i).num_windows ≡ max32)
+  no_sum : (r : Record) → Fair period w.ran w.at_c (does_of r 0) → (stepping.task_step m (task_of r)).outcome ≡ Err Why.WontFit → FirstIs (last_rows m (task_of r)) Why.WontFit → (i : ℕ) × (g : Gaps) × (r ≡ K.Enable i g) × ((thread_record l i).num_windows ≡ max32)
   unfolding rises concerned task_of last_rows
   no_sum (K.Run p) fair e first = absurd first
   no_sum (K.Sample g) fair e first = absurd first
@@ -162,8 +161,8 @@ done_slots m (T.Setup s) = length-replicate (slots_of m) new_idle
 
 accepted_slots : (m : Machine) (d : Decoded) → slots_of (accepted_by m d).machine ≡ slots_of m
 unfolding accepted_by
-accepted_slots m (D.Accepted r) = done_slots m (task_of r)
-accepted_slots m (D.Refused why) = refl
+accepted_slots m (Ok r) = done_slots m (task_of r)
+accepted_slots m (Err why) = refl
 
 step_slots : (m : Machine) (d : Decoded) → slots_of (step_of m d).machine ≡ slots_of m
 unfolding step_of

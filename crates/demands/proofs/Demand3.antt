@@ -1,11 +1,11 @@
 -- Demand 3 over whole traces, from what the clock's and the ledger's runs are known to do.
+use Rattle.std.specs.Prelude.{Ok}
 use Prim.Native.Nat.{ℕ, ◌+◌, ◌*◌, ◌≤◌, ◌<◌}
 use mathlib.Core.Path.{◌≡◌, refl, sym, ap, ◌∙◌}
 use native.Mathlib.Nat.{mul-le-mul_right}
 use Rattle.systick.proofs.Bounds.{quotients_keep_order}
-use Rattle.clock.specs.declared.Gaps.{Gaps}
+use Rattle.counter.specs.declared.Gaps.{Gaps}
 use Rattle.clock.specs.declared.Timer.{Timer}
-use Rattle.clock.specs.declared.Announced.TheVariants as N
 use Rattle.clock.specs.Timer.{GoodSetup}
 use Rattle.clock.specs.Announce as clock-announces
 use Rattle.clock.specs.Announce.{announce_of}
@@ -14,9 +14,7 @@ use Rattle.clock.proofs.Holds.{Tells}
 use Rattle.clock.proofs.Runs as clock-runs
 use Rattle.ledger.proofs.Agreeing as ledger-runs
 use Rattle.trace.specs.declared.Record.TheVariants as K
-use Rattle.trace.specs.declared.Decoded.TheVariants as D
 use Rattle.table.specs.declared.Values.{Values}
-use Rattle.table.specs.declared.Outcome.TheVariants as Told
 use Rattle.machine.specs.Step.{done_by, step_of}
 use Rattle.table.specs.declared.tasks.Task.TheVariants as T
 use Rattle.table.specs.declared.tasks.Then.TheVariants as W
@@ -43,12 +41,12 @@ module _ {slots period tick : ℕ} (some : 0 < slots) (good : GoodSetup period t
   told =
       let a = announces some good w same in
       let run = clock-runs.every_run period tick good same.events in
-      let there : announce_of world.timer ≡ N.Accepted (clock-announces.announcement timer) =
-      ap announce_of (sym same.timer) ∙ (a.1 ∙ ap N.Accepted (announcement_is timer a.0 a.1)) in
+      let there : announce_of world.timer ≡ Ok (clock-announces.announcement timer) =
+      ap announce_of (sym same.timer) ∙ (a.1 ∙ ap Ok (announcement_is timer a.0 a.1)) in
       let last : timer.clock.last.0 ≡ world.read = ap (λ (t : Timer). t.clock.last.0) same.timer ∙ run.always.last in
       rw last (rw there at run.announcements)
 
-  announcement : (answered : Values) → (step_of w.machine (D.Accepted K.Announce)).outcome ≡ Told.Accepted answered → Announces step_of period tick w.machine (step_of w.machine (D.Accepted K.Announce)).machine answered
+  announcement : (answered : Values) → (step_of w.machine (Ok K.Announce)).outcome ≡ Ok answered → Announces step_of period tick w.machine (step_of w.machine (Ok K.Announce)).machine answered
   unfolding done_by task_of
   announcement answered e =
       let law = every_answer w.machine K.Announce answered e in
@@ -83,7 +81,7 @@ module _ {slots period tick : ℕ} (some : 0 < slots) (good : GoodSetup period t
 
 -- and in a fair run
 module _ {slots period tick : ℕ} (some : 0 < slots) (good : GoodSetup period tick) (w : Watched) (held : True slots period tick w) where
-  shows : (g : Gaps) (answered : Values) → FairSample period w.ran w.at_c g → (step_of w.machine (D.Accepted (K.Sample g))).outcome ≡ Told.Accepted answered → w.machine.timer.clock.count.0 + answered.x ≡ time_c w.ran g
+  shows : (g : Gaps) (answered : Values) → FairSample period w.ran w.at_c g → (step_of w.machine (Ok (K.Sample g))).outcome ≡ Ok answered → w.machine.timer.clock.count.0 + answered.x ≡ time_c w.ran g
   unfolding done_by task_of
   shows g answered fair e =
       let accepted = stepping.sample_accepted w.machine g W.Tell (stepping.touches_accepted w.machine (T.Sample g W.Tell) answered (rw (stepping.of_task w.machine (K.Sample g)) at e)) in

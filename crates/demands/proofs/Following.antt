@@ -1,4 +1,5 @@
 -- In a fair run the onlooker of the threads has just what the machine's entries tell.
+use Rattle.std.specs.Prelude.{Ok, Err}
 use Prim.Native.Nat.{ℕ, ◌+◌, ◌<◌, ◌*◌}
 use mathlib.Core.Path.{◌≡◌, refl, sym, ap, ◌∙◌, subst}
 use mathlib.Core.Bool.{true}
@@ -6,30 +7,26 @@ use mathlib.Core.List.{List, [], ◌∷◌, ◌++◌, append-nil}
 use native.Mathlib.Omega.{arith}
 use Rattle.error.specs.declared.Refusal.{Refusal}
 use Rattle.units.specs.declared.Cycles.{Cycles}
-use Rattle.clock.specs.declared.Gaps.{Gaps}
+use Rattle.counter.specs.declared.Gaps.{Gaps}
 use Rattle.clock.specs.declared.Timer.{Timer}
-use Rattle.clock.specs.declared.Sampled.TheVariants as S
 use Rattle.clock.specs.declared.Announcement.{Announcement}
-use Rattle.clock.specs.declared.Announced.TheVariants as N
-use Rattle.clock.specs.Sample.{cycles_of, sample_value}
+use Rattle.counter.specs.Readings.{cycles_of}
+use Rattle.clock.specs.Sample.{sample_value}
 use Rattle.clock.specs.Entries.{sample_of}
 use Rattle.clock.specs.Announce.{announce_of}
 use Rattle.clock.specs.Timer.{GoodSetup}
 use Rattle.clock.proofs.Run as clock
 use Rattle.clock.proofs.Runs.{every_run}
 use Rattle.books.specs.declared.Operation.{Operation}
-use Rattle.ledger.specs.declared.Answer.TheVariants as A
 use Rattle.ledger.specs.Operate.{operate_of}
 use Rattle.ledger.proofs.Holds.{Timely}
 use Rattle.ledger.specs.Threads.{operated}
 use Rattle.ledger.proofs.Run as ledger
-use Rattle.trace.specs.declared.Decoded.{Decoded}
-use Rattle.trace.specs.declared.Decoded.TheVariants as D
+use Rattle.trace.specs.Decode.{Decoded}
 use Rattle.table.specs.Table.{columns}
 use Rattle.machine.specs.declared.Machine.{Machine}
 use Rattle.table.specs.declared.Values.{Values}
 use Rattle.table.specs.declared.Reason.TheVariants as Why
-use Rattle.table.specs.declared.Outcome.TheVariants as Told
 use Rattle.table.specs.declared.tasks.Task.{Task}
 use Rattle.table.specs.declared.tasks.Task.TheVariants as T
 use Rattle.table.specs.declared.tasks.Then.TheVariants as W
@@ -56,15 +53,15 @@ module _ (lw : ledger.World) (m : Machine) (together : lw.ledger ≡ m.ledger) (
   abbrev entry : ledger.Event
   entry = record { operation = op; time = reading.0 }
 
-  accepted_entry : (x : ℕ) → (operate_of m.ledger reading op).answer ≡ A.Accepted x → ((ledger.step entry lw).threads ≡ operated lw.threads op reading.0) × ((ledger.step entry lw).answered ≡ ledger.answered_after lw.threads op lw.answered x)
+  accepted_entry : (x : ℕ) → (operate_of m.ledger reading op).answer ≡ Ok x → ((ledger.step entry lw).threads ≡ operated lw.threads op reading.0) × ((ledger.step entry lw).answered ≡ ledger.answered_after lw.threads op lw.answered x)
   unfolding ledger.step
   accepted_entry x e = rw (together, e) (refl, refl)
 
-  refused_entry : (why : Refusal) → (operate_of m.ledger reading op).answer ≡ A.Refused why → ((ledger.step entry lw).threads ≡ lw.threads) × ((ledger.step entry lw).answered ≡ lw.answered)
+  refused_entry : (why : Refusal) → (operate_of m.ledger reading op).answer ≡ Err why → ((ledger.step entry lw).threads ≡ lw.threads) × ((ledger.step entry lw).answered ≡ lw.answered)
   unfolding ledger.step
   refused_entry why e = rw (together, e) (refl, refl)
 
-module _ (w : Watched) (x : clock.World) (together : w.machine.timer ≡ x.timer) (ready : w.machine.ready ≡ true) (announced : (a : Announcement) × (announce_of w.machine.timer ≡ N.Accepted a)) where
+module _ (w : Watched) (x : clock.World) (together : w.machine.timer ≡ x.timer) (ready : w.machine.ready ≡ true) (announced : (a : Announcement) × (announce_of w.machine.timer ≡ Ok a)) where
   abbrev m : Machine
   m = w.machine
 
@@ -95,7 +92,7 @@ module _ (w : Watched) (x : clock.World) (together : w.machine.timer ≡ x.timer
       abbrev Tells : Does → List ledger.Event → Type 0
       Tells d es = ((ledger.after es lw).threads ≡ (seen d next w).threads) × ((ledger.after es lw).answered ≡ (seen d next w).since)
 
-      told_operation : (g : Gaps) (op : Operation) → Touches m (T.Sample g (W.Operate op)) → FairSample period w.ran w.at_c g → (values : Values) → (task_step m (T.Sample g (W.Operate op))).outcome ≡ Told.Accepted values → Tells (operates op g values.x) (entry_at m g op ∷ [])
+      told_operation : (g : Gaps) (op : Operation) → Touches m (T.Sample g (W.Operate op)) → FairSample period w.ran w.at_c g → (values : Values) → (task_step m (T.Sample g (W.Operate op))).outcome ≡ Ok values → Tells (operates op g values.x) (entry_at m g op ∷ [])
       unfolding seen ledger.after
       told_operation g op t fair values e =
           let reading = (sample_value m.timer g).reading in
@@ -104,7 +101,7 @@ module _ (w : Watched) (x : clock.World) (together : w.machine.timer ≡ x.timer
           let is = reads g fair (stepping.sample_accepted m g (W.Operate op) t) in
           (done.0 ∙ rw (th, is) refl, done.1 ∙ rw (th, pr) refl)
 
-      tells : (task : Task) (t : Touches m task) (values : Values) → Fair period w.ran w.at_c (task_does task values.x) → (task_step m task).outcome ≡ Told.Accepted values → Tells (task_does task values.x) (entries_by task t)
+      tells : (task : Task) (t : Touches m task) (values : Values) → Fair period w.ran w.at_c (task_does task values.x) → (task_step m task).outcome ≡ Ok values → Tells (task_does task values.x) (entries_by task t)
       unfolding seen moved entries_by ledger.after idle operation
       tells (T.Run p) t values fair e = (th, pr)
       tells (T.Sample g W.Tell) t values fair e = (th, pr)
@@ -114,7 +111,7 @@ module _ (w : Watched) (x : clock.World) (together : w.machine.timer ≡ x.timer
       tells (T.Setup s) t values fair e = absurd (stepping.no_setup m s ready t)
 
       -- of a refused one, nothing
-      keeps : (g : Gaps) (op : Operation) (t : Touches m (T.Sample g (W.Operate op))) → (task_step m (T.Sample g (W.Operate op))).outcome ≡ Told.Refused Why.WontFit → Tells (samples g) (entries_by (T.Sample g (W.Operate op)) t)
+      keeps : (g : Gaps) (op : Operation) (t : Touches m (T.Sample g (W.Operate op))) → (task_step m (T.Sample g (W.Operate op))).outcome ≡ Err Why.WontFit → Tells (samples g) (entries_by (T.Sample g (W.Operate op)) t)
       unfolding seen moved entries_by ledger.after operation
       keeps g op t e =
           let reading = (sample_value m.timer g).reading in
@@ -130,7 +127,7 @@ module _ {slots period tick : ℕ} (some : 0 < slots) (good : GoodSetup period t
 
     fair_event : (g : Gaps) → FairSample period w.ran w.at_c g → Samples (core_of w.machine) g → clock.FairRun (clock.sample g ∷ []) x
     fair_event g fair accepted =
-        let there : sample_of x.timer g ≡ S.Accepted (sample_value x.timer g) = subst (λ (t : Timer). sample_of t g ≡ S.Accepted (sample_value t g)) held.same.timer accepted in
+        let there : sample_of x.timer g ≡ Ok (sample_value x.timer g) = subst (λ (t : Timer). sample_of t g ≡ Ok (sample_value t g)) held.same.timer accepted in
         (rw there (fair_sample period w.ran w.at_c x held.same.tracks g fair), tt)
 
     pub reads_true : (g : Gaps) → FairSample period w.ran w.at_c g → Samples (core_of w.machine) g → (sample_value w.machine.timer g).reading.0 ≡ time_c w.ran g
@@ -197,7 +194,7 @@ module _ {slots period tick : ℕ} (some : 0 < slots) (good : GoodSetup period t
     FairTask : Task → Type 0
     FairTask task = Fair period w.ran w.at_c (happened_by task (task_step w.machine task).outcome)
 
-    sum_true : (g : Gaps) (op : Operation) → (task_step w.machine (T.Sample g (W.Operate op))).outcome ≡ Told.Refused Why.WontFit → Touches w.machine (T.Sample g (W.Operate op)) → FairTask (T.Sample g (W.Operate op)) → True slots period tick (after_task (T.Sample g (W.Operate op)) w)
+    sum_true : (g : Gaps) (op : Operation) → (task_step w.machine (T.Sample g (W.Operate op))).outcome ≡ Err Why.WontFit → Touches w.machine (T.Sample g (W.Operate op)) → FairTask (T.Sample g (W.Operate op)) → True slots period tick (after_task (T.Sample g (W.Operate op)) w)
     unfolding FairTask happened_by columns seen answered_of told_of
     sum_true g op e t fair =
         rw e
@@ -219,9 +216,9 @@ module _ {slots period tick : ℕ} (some : 0 < slots) (good : GoodSetup period t
 
   pub watch_true : (d : Decoded) (w : Watched) → Fair period w.ran w.at_c (happened d (step_of w.machine d).outcome) → True slots period tick w → True slots period tick (watch step_of d w)
   unfolding FairTask happened
-  watch_true (D.Accepted r) w fair held =
+  watch_true (Ok r) w fair held =
       subst (True slots period tick) (sym (watched_task r w)) (task_true w held (task_of r) (subst (Fair period w.ran w.at_c) (happened_is w.machine r) fair))
-  watch_true (D.Refused why) w fair held = left_true w _ (refused_left w.machine why) held
+  watch_true (Err why) w fair held = left_true w _ (refused_left w.machine why) held
 
   pub all_true : (ds : List Decoded) (w : Watched) → FairTrace step_of period ds w → True slots period tick w → True slots period tick (watch_all step_of ds w)
   unfolding watch_all FairTrace

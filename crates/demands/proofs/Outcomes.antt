@@ -1,41 +1,21 @@
 -- One outcome for every public contract: the answer is fixed for all arguments.
-use mathlib.Core.Path.{◌≡◌, sym, ◌∙◌}
+use mathlib.Core.Path.{◌≡◌, sym, ap, ◌∙◌}
+use denote.RattleType.{RattleType}
+use denote.Param.Laws.{Laws}
+use mir.Syntax.{Dict}
 use Rattle.error.proofs.Refusal.number.Reads as error-Refusal-number
+use Rattle.error.proofs.number.Reads as error-number
 use Rattle.systick.proofs.elapsed_cycles.Reads as systick-elapsed-cycles
-use Rattle.systick.proofs.ElapsedCycles.number.Reads as systick-ElapsedCycles-number
-use Rattle.systick.proofs.ElapsedCycles.cycles.Reads as systick-ElapsedCycles-cycles
 use Rattle.systick.proofs.cycles_to_ticks.Reads as systick-cycles-to-ticks
-use Rattle.systick.proofs.CyclesToTicks.number.Reads as systick-CyclesToTicks-number
-use Rattle.systick.proofs.CyclesToTicks.ticks.Reads as systick-CyclesToTicks-ticks
 use Rattle.systick.proofs.ticks_to_cycles.Reads as systick-ticks-to-cycles
-use Rattle.systick.proofs.TicksToCycles.number.Reads as systick-TicksToCycles-number
-use Rattle.systick.proofs.TicksToCycles.cycles.Reads as systick-TicksToCycles-cycles
 use Rattle.systick.proofs.max_ticks.Reads as systick-max-ticks
-use Rattle.systick.proofs.MaxTicks.number.Reads as systick-MaxTicks-number
-use Rattle.systick.proofs.MaxTicks.ticks.Reads as systick-MaxTicks-ticks
 use Rattle.systick.proofs.elapsed_decide.Reads as systick-elapsed-decide
-use Rattle.systick.proofs.ElapsedDecide.number.Reads as systick-ElapsedDecide-number
-use Rattle.systick.proofs.ElapsedDecide.wrap_detected.Reads as systick-ElapsedDecide-wrap-detected
-use Rattle.systick.proofs.ElapsedDecide.new_overflow_cyc.Reads as systick-ElapsedDecide-new-overflow-cyc
-use Rattle.systick.proofs.ElapsedDecide.elapsed.Reads as systick-ElapsedDecide-elapsed
-use Rattle.systick.proofs.ElapsedDecide.refusal.Reads as systick-ElapsedDecide-refusal
 use Rattle.systick.proofs.announce_decide.Reads as systick-announce-decide
-use Rattle.systick.proofs.AnnounceDecide.number.Reads as systick-AnnounceDecide-number
-use Rattle.systick.proofs.AnnounceDecide.dticks.Reads as systick-AnnounceDecide-dticks
-use Rattle.systick.proofs.AnnounceDecide.new_cycle_count.Reads as systick-AnnounceDecide-new-cycle-count
-use Rattle.systick.proofs.AnnounceDecide.new_announced_cycles.Reads as systick-AnnounceDecide-new-announced-cycles
-use Rattle.systick.proofs.AnnounceDecide.refusal.Reads as systick-AnnounceDecide-refusal
 use Rattle.usage.proofs.ThreadUsage.new_idle.Reads as usage-ThreadUsage-new-idle
-use Rattle.usage.proofs.Changed.number.Reads as usage-Changed-number
-use Rattle.usage.proofs.Changed.usage.Reads as usage-Changed-usage
-use Rattle.usage.proofs.Changed.refusal.Reads as usage-Changed-refusal
 use Rattle.usage.proofs.is_tracked.Reads as usage-is-tracked
 use Rattle.usage.proofs.enabled.Reads as usage-enabled
 use Rattle.usage.proofs.disabled.Reads as usage-disabled
 use Rattle.usage.proofs.accumulated.Reads as usage-accumulated
-use Rattle.usage.proofs.enable_outcome.Reads as usage-enable-outcome
-use Rattle.usage.proofs.disable_outcome.Reads as usage-disable-outcome
-use Rattle.usage.proofs.accumulate_outcome.Reads as usage-accumulate-outcome
 use Rattle.usage.proofs.SysTrackDecision.is_apply.Reads as usage-SysTrackDecision-is-apply
 use Rattle.usage.proofs.sys_enable_decide.Reads as usage-sys-enable-decide
 use Rattle.usage.proofs.sys_disable_decide.Reads as usage-sys-disable-decide
@@ -51,53 +31,30 @@ use Rattle.counter.proofs.Counter.in_range.Reads as counter-Counter-in-range
 use Rattle.counter.proofs.Counter.cycles_above.Reads as counter-Counter-cycles-above
 use Rattle.counter.proofs.Counter.cleared.Reads as counter-Counter-cleared
 use Rattle.counter.proofs.run.Reads as counter-run
-use Rattle.counter.proofs.Ran.number.Reads as counter-Ran-number
-use Rattle.counter.proofs.Ran.counter.Reads as counter-Ran-counter
-use Rattle.counter.proofs.Ran.refusal.Reads as counter-Ran-refusal
-use Rattle.counter.proofs.sample_cycles.Reads as counter-sample-cycles
 use Rattle.counter.proofs.readings.Reads as counter-readings
-use Rattle.counter.proofs.SampleRead.refusal.Reads as counter-SampleRead-refusal
-use Rattle.counter.proofs.SampleRead.number.Reads as counter-SampleRead-number
 use Rattle.counter.proofs.value_of.Reads as counter-value-of
-use Rattle.counter.proofs.ValueRead.number.Reads as counter-ValueRead-number
-use Rattle.counter.proofs.ValueRead.value.Reads as counter-ValueRead-value
-use Rattle.clock.proofs.Gaps.whole.Reads as clock-Gaps-whole
+use Rattle.counter.proofs.Gaps.whole.Reads as counter-Gaps-whole
 use Rattle.clock.proofs.bad_setup.Reads as clock-bad-setup
 use Rattle.clock.proofs.set_up.Reads as clock-set-up
 use Rattle.clock.proofs.well_formed.Reads as clock-well-formed
 use Rattle.clock.proofs.crowded.Reads as clock-crowded
 use Rattle.clock.proofs.sample.Reads as clock-sample
 use Rattle.clock.proofs.announce.Reads as clock-announce
-use Rattle.clock.proofs.SetUp.number.Reads as clock-SetUp-number
-use Rattle.clock.proofs.SetUp.refusal.Reads as clock-SetUp-refusal
-use Rattle.clock.proofs.Sampled.number.Reads as clock-Sampled-number
-use Rattle.clock.proofs.Sampled.refusal.Reads as clock-Sampled-refusal
-use Rattle.clock.proofs.Sampled.elapsed.Reads as clock-Sampled-elapsed
-use Rattle.clock.proofs.Sampled.wrap.Reads as clock-Sampled-wrap
-use Rattle.clock.proofs.Sampled.reading.Reads as clock-Sampled-reading
-use Rattle.clock.proofs.Announced.number.Reads as clock-Announced-number
-use Rattle.clock.proofs.Announced.refusal.Reads as clock-Announced-refusal
-use Rattle.clock.proofs.Announced.dticks.Reads as clock-Announced-dticks
 use Rattle.books.proofs.nothing_booked.Reads as books-nothing-booked
 use Rattle.books.proofs.enter.Reads as books-enter
-use Rattle.books.proofs.Entered.refusal.Reads as books-Entered-refusal
-use Rattle.books.proofs.Entered.number.Reads as books-Entered-number
 use Rattle.books.proofs.no_thread.Reads as books-no-thread
 use Rattle.books.proofs.unrecorded.Reads as books-unrecorded
 use Rattle.books.proofs.past.Reads as books-past
 use Rattle.books.proofs.busy.Reads as books-busy
 use Rattle.books.proofs.concerned.Reads as books-concerned
+use Rattle.ledger.specs.Operate.{ledger_of}
 use Rattle.ledger.proofs.operate.Reads as ledger-operate
+use Rattle.ledger.proofs.operate_on.Reads as ledger-operate-on
+use Rattle.ledger.proofs.report_from.Reads as ledger-report-from
 use Rattle.ledger.proofs.ThreadReport.of.Reads as ledger-ThreadReport-of
 use Rattle.ledger.proofs.report.Reads as ledger-report
-use Rattle.ledger.proofs.Answer.number.Reads as ledger-Answer-number
-use Rattle.ledger.proofs.Answer.cycles.Reads as ledger-Answer-cycles
-use Rattle.ledger.proofs.Reported.number.Reads as ledger-Reported-number
-use Rattle.ledger.proofs.Reported.total.Reads as ledger-Reported-total
-use Rattle.ledger.proofs.Reported.average.Reads as ledger-Reported-average
 use Rattle.ledger.proofs.fresh.Reads as ledger-fresh
 use Rattle.trace.proofs.decode.Reads as trace-decode
-use Rattle.trace.proofs.Decoded.number.Reads as trace-Decoded-number
 use Rattle.tickclock.proofs.thread.usage_enable_number.Reads as usage-enable-number
 use Rattle.tickclock.proofs.thread.usage_enable_track_usage.Reads as usage-enable-track-usage
 use Rattle.tickclock.proofs.thread.usage_enable_total_cycles.Reads as usage-enable-total-cycles
@@ -147,18 +104,16 @@ use Rattle.tickclock.proofs.timer.systick_announce_decide_new_announced_cycles.R
 use Rattle.tickclock.proofs.timer.counter_value_number.Reads as counter-value-number
 use Rattle.tickclock.proofs.timer.counter_value_value.Reads as counter-value-value
 use Rattle.table.proofs.Reason.refusal.Reads as table-Reason-refusal
-use Rattle.table.proofs.Outcome.number.Reads as table-Outcome-number
-use Rattle.table.proofs.Outcome.x.Reads as table-Outcome-x
-use Rattle.table.proofs.Outcome.y.Reads as table-Outcome-y
 use Rattle.table.proofs.malformed.Reads as table-malformed
 use Rattle.table.proofs.changes.change_of.Reads as changes-change-of
 use Rattle.table.proofs.changes.change_at.Reads as changes-change-at
+use Rattle.machine.specs.Step.{machine_of}
 use Rattle.machine.proofs.Machine.core.Reads as machine-Machine-core
+use Rattle.machine.proofs.Machine.of.Reads as machine-Machine-of
+use Rattle.machine.proofs.make.Reads as machine-make
 use Rattle.machine.proofs.report_values.Reads as machine-report-values
 use Rattle.machine.proofs.step.Reads as machine-step
 use Rattle.machine.proofs.fresh.Reads as machine-fresh
-use Rattle.lines.proofs.Written.number.Reads as lines-Written-number
-use Rattle.lines.proofs.Written.end.Reads as lines-Written-end
 use Rattle.lines.proofs.label.Label.of.Reads as lines-Label-of
 use Rattle.lines.proofs.label.Label.next.Reads as lines-Label-next
 use Rattle.transcript.proofs.room_for.Reads as transcript-room-for
@@ -194,53 +149,17 @@ once_lent :
     (one ≡ other) × (held here ≡ held there)
 once_lent held answer left lives args one other here there p q = (p.0 ∙ sym q.0, p.1 ∙ sym q.1)
 
-pub error_outcomes : OneOutcome error-Refusal-number.Post
-error_outcomes = once _
+pub error_outcomes : OneOutcome error-Refusal-number.Post × ((T : RattleType) (laws : Laws T) (dict : Dict) → OneOutcome (error-number.Post T laws dict))
+error_outcomes = (once _, λ T laws dict. once _)
 
 pub systick_outcomes :
     OneOutcome systick-elapsed-cycles.Post ×
-    OneOutcome systick-ElapsedCycles-number.Post ×
-    OneOutcome systick-ElapsedCycles-cycles.Post ×
     OneOutcome systick-cycles-to-ticks.Post ×
-    OneOutcome systick-CyclesToTicks-number.Post ×
-    OneOutcome systick-CyclesToTicks-ticks.Post ×
     OneOutcome systick-ticks-to-cycles.Post ×
-    OneOutcome systick-TicksToCycles-number.Post ×
-    OneOutcome systick-TicksToCycles-cycles.Post ×
     OneOutcome systick-max-ticks.Post ×
-    OneOutcome systick-MaxTicks-number.Post ×
-    OneOutcome systick-MaxTicks-ticks.Post ×
     OneOutcome systick-elapsed-decide.Post ×
-    OneOutcome systick-ElapsedDecide-number.Post ×
-    OneOutcome systick-ElapsedDecide-wrap-detected.Post ×
-    OneOutcome systick-ElapsedDecide-new-overflow-cyc.Post ×
-    OneOutcome systick-ElapsedDecide-elapsed.Post ×
-    OneOutcome systick-ElapsedDecide-refusal.Post ×
-    OneOutcome systick-announce-decide.Post ×
-    OneOutcome systick-AnnounceDecide-number.Post ×
-    OneOutcome systick-AnnounceDecide-dticks.Post ×
-    OneOutcome systick-AnnounceDecide-new-cycle-count.Post ×
-    OneOutcome systick-AnnounceDecide-new-announced-cycles.Post ×
-    OneOutcome systick-AnnounceDecide-refusal.Post
+    OneOutcome systick-announce-decide.Post
 systick_outcomes = (
-  once _,
-  once _,
-  once _,
-  once _,
-  once _,
-  once _,
-  once _,
-  once _,
-  once _,
-  once _,
-  once _,
-  once _,
-  once _,
-  once _,
-  once _,
-  once _,
-  once _,
-  once _,
   once _,
   once _,
   once _,
@@ -251,16 +170,10 @@ systick_outcomes = (
 
 pub usage_outcomes :
     OneOutcome usage-ThreadUsage-new-idle.Post ×
-    OneOutcome usage-Changed-number.Post ×
-    OneOutcome usage-Changed-usage.Post ×
-    OneOutcome usage-Changed-refusal.Post ×
     OneOutcome usage-is-tracked.Post ×
     OneOutcome usage-enabled.Post ×
     OneOutcome usage-disabled.Post ×
     OneOutcome usage-accumulated.Post ×
-    OneOutcome usage-enable-outcome.Post ×
-    OneOutcome usage-disable-outcome.Post ×
-    OneOutcome usage-accumulate-outcome.Post ×
     OneOutcome usage-SysTrackDecision-is-apply.Post ×
     OneOutcome usage-sys-enable-decide.Post ×
     OneOutcome usage-sys-disable-decide.Post ×
@@ -285,12 +198,6 @@ usage_outcomes = (
   once _,
   once _,
   once _,
-  once _,
-  once _,
-  once _,
-  once _,
-  once _,
-  once _,
 )
 
 pub counter_outcomes :
@@ -300,24 +207,10 @@ pub counter_outcomes :
     OneOutcome counter-Counter-cycles-above.Post ×
     OneOutcome counter-Counter-cleared.Post ×
     OneOutcome counter-run.Post ×
-    OneOutcome counter-Ran-number.Post ×
-    OneOutcome counter-Ran-counter.Post ×
-    OneOutcome counter-Ran-refusal.Post ×
-    OneOutcome counter-sample-cycles.Post ×
+    OneOutcome counter-Gaps-whole.Post ×
     OneOutcome counter-readings.Post ×
-    OneOutcome counter-SampleRead-refusal.Post ×
-    OneOutcome counter-SampleRead-number.Post ×
-    OneOutcome counter-value-of.Post ×
-    OneOutcome counter-ValueRead-number.Post ×
-    OneOutcome counter-ValueRead-value.Post
+    OneOutcome counter-value-of.Post
 counter_outcomes = (
-  once _,
-  once _,
-  once _,
-  once _,
-  once _,
-  once _,
-  once _,
   once _,
   once _,
   once _,
@@ -330,35 +223,13 @@ counter_outcomes = (
 )
 
 pub clock_outcomes :
-    OneOutcome clock-Gaps-whole.Post ×
     OneOutcome clock-bad-setup.Post ×
     OneOutcome clock-set-up.Post ×
     OneOutcome clock-well-formed.Post ×
     OneOutcome clock-crowded.Post ×
     OneOutcome clock-sample.Post ×
-    OneOutcome clock-announce.Post ×
-    OneOutcome clock-SetUp-number.Post ×
-    OneOutcome clock-SetUp-refusal.Post ×
-    OneOutcome clock-Sampled-number.Post ×
-    OneOutcome clock-Sampled-refusal.Post ×
-    OneOutcome clock-Sampled-elapsed.Post ×
-    OneOutcome clock-Sampled-wrap.Post ×
-    OneOutcome clock-Sampled-reading.Post ×
-    OneOutcome clock-Announced-number.Post ×
-    OneOutcome clock-Announced-refusal.Post ×
-    OneOutcome clock-Announced-dticks.Post
+    OneOutcome clock-announce.Post
 clock_outcomes = (
-  once _,
-  once _,
-  once _,
-  once _,
-  once _,
-  once _,
-  once _,
-  once _,
-  once _,
-  once _,
-  once _,
   once _,
   once _,
   once _,
@@ -370,8 +241,6 @@ clock_outcomes = (
 pub books_outcomes :
     OneOutcome books-nothing-booked.Post ×
     OneOutcome books-enter.Post ×
-    OneOutcome books-Entered-refusal.Post ×
-    OneOutcome books-Entered-number.Post ×
     OneOutcome books-no-thread.Post ×
     OneOutcome books-unrecorded.Post ×
     OneOutcome books-past.Post ×
@@ -385,19 +254,13 @@ books_outcomes = (
   once _,
   once _,
   once _,
-  once _,
-  once _,
 )
 
 pub ledger_outcomes :
     OneOutcome ledger-operate.Post ×
+    OneOutcome ledger-report-from.Post ×
     OneOutcome ledger-ThreadReport-of.Post ×
     OneOutcome ledger-report.Post ×
-    OneOutcome ledger-Answer-number.Post ×
-    OneOutcome ledger-Answer-cycles.Post ×
-    OneOutcome ledger-Reported-number.Post ×
-    OneOutcome ledger-Reported-total.Post ×
-    OneOutcome ledger-Reported-average.Post ×
     OneOutcome ledger-fresh.Post
 ledger_outcomes = (
   once _,
@@ -405,25 +268,15 @@ ledger_outcomes = (
   once _,
   once _,
   once _,
-  once _,
-  once _,
-  once _,
-  once _,
 )
 
-pub trace_outcomes : OneOutcome trace-decode.Post × OneOutcome trace-Decoded-number.Post
-trace_outcomes = (once _, once _)
+pub trace_outcomes : OneOutcome trace-decode.Post
+trace_outcomes = once _
 
 pub table_outcomes :
     OneOutcome table-Reason-refusal.Post ×
-    OneOutcome table-Outcome-number.Post ×
-    OneOutcome table-Outcome-x.Post ×
-    OneOutcome table-Outcome-y.Post ×
     OneOutcome table-malformed.Post
 table_outcomes = (
-  once _,
-  once _,
-  once _,
   once _,
   once _,
 )
@@ -433,20 +286,26 @@ changes_outcomes = (once _, once _)
 
 pub machine_outcomes :
     OneOutcome machine-Machine-core.Post ×
+    OneOutcome machine-Machine-of.Post ×
     OneOutcome machine-report-values.Post ×
     OneOutcome machine-step.Post ×
     OneOutcome machine-fresh.Post
-machine_outcomes = (once _, once _, once _, once _)
+machine_outcomes = (once _, once _, once _, once _, once _)
+
+-- the answer, and the parts that were lent
+pub parts_lent_outcomes :
+    OneOutcomeLent (λ exit. ledger_of exit.0.now exit.1.0.now) ledger-operate-on.Post ×
+    OneOutcomeLent (λ exit. machine_of exit.0.now exit.1.0.now) machine-make.Post
+parts_lent_outcomes = (
+  λ lives args one other here there p q. let same = p ∙ sym q in (ap (λ s. s.answer) same, ap (λ s. s.ledger) same),
+  λ lives args one other here there p q. let same = p ∙ sym q in (ap (λ s. s.outcome) same, ap (λ s. s.machine) same),
+)
 
 pub lines_outcomes :
-    OneOutcome lines-Written-number.Post ×
-    OneOutcome lines-Written-end.Post ×
     OneOutcome lines-Label-of.Post ×
     OneOutcome lines-Label-next.Post ×
     OneOutcome transcript-room-for.Post
 lines_outcomes = (
-  once _,
-  once _,
   once _,
   once _,
   once _,

@@ -1,4 +1,5 @@
 -- The demands' run is the transcript's, a fair trace's last line is true, and a reader hands out the trace's records.
+use Rattle.std.specs.Prelude.{Ok, Err}
 use Prim.Native.Nat.{ℕ, zero, suc, ◌+◌, ◌-◌, ◌/◌}
 use mathlib.Core.Path.{◌≡◌, refl, sym, ap, ◌∙◌}
 use mathlib.Core.Bool.{Bool, true, false, cond}
@@ -10,8 +11,7 @@ use borrow.Author.Tests.{le-ltb, ltb-false, eq-eqb, ne_eqb}
 use Rattle.clock.specs.declared.Timer.{Timer}
 use Rattle.clock.proofs.Run as clock
 use Rattle.trace.specs.declared.Record.TheVariants as K
-use Rattle.trace.specs.declared.Decoded.{Decoded}
-use Rattle.trace.specs.declared.Decoded.TheVariants as D
+use Rattle.trace.specs.Decode.{Decoded}
 use Rattle.trace.specs.Decode.{decode_of}
 use Rattle.trace.specs.Handing.{records_left, item_at, place_after}
 use Rattle.machine.specs.declared.Machine.{Machine}
@@ -36,17 +36,17 @@ same_run (d ∷ ds) w =
 -- before a setup nothing is accepted, and nothing changes
 not_yet : (slots : ℕ) (d : Decoded) → NoSetup d → (step_of (fresh_machine slots) d).machine ≡ fresh_machine slots
 unfolding step_of record_rows accepted_by task_of asked_by malformed columns
-not_yet slots (D.Accepted (K.Run p)) none = refl
-not_yet slots (D.Accepted (K.Sample g)) none = refl
-not_yet slots (D.Accepted K.Announce) none = refl
-not_yet slots (D.Accepted (K.Start i g)) none = refl
-not_yet slots (D.Accepted (K.Switch i g)) none = refl
-not_yet slots (D.Accepted (K.Stop g)) none = refl
-not_yet slots (D.Accepted (K.Enable i g)) none = refl
-not_yet slots (D.Accepted (K.Disable i g)) none = refl
-not_yet slots (D.Accepted (K.Report i)) none = refl
-not_yet slots (D.Accepted (K.Setup s)) none = absurd none
-not_yet slots (D.Refused why) none = refl
+not_yet slots (Ok (K.Run p)) none = refl
+not_yet slots (Ok (K.Sample g)) none = refl
+not_yet slots (Ok K.Announce) none = refl
+not_yet slots (Ok (K.Start i g)) none = refl
+not_yet slots (Ok (K.Switch i g)) none = refl
+not_yet slots (Ok (K.Stop g)) none = refl
+not_yet slots (Ok (K.Enable i g)) none = refl
+not_yet slots (Ok (K.Disable i g)) none = refl
+not_yet slots (Ok (K.Report i)) none = refl
+not_yet slots (Ok (K.Setup s)) none = absurd none
+not_yet slots (Err why) none = refl
 
 none_yet : (slots : ℕ) (before ds : List Decoded) → NoneSetsUp before → machine_after (fresh_machine slots) (before ++ ds) ≡ machine_after (fresh_machine slots) ds
 unfolding machine_after
@@ -62,7 +62,7 @@ ends_true slots period tick some good trace before ds none begins fair =
     let left = sym (same_run ds (at_setup step_of slots period tick)) in
     let cycles = ap (λ (t : Timer). t.counter.cycles.0) same.timer ∙ cycles_are period w.ran w.at_c (clock.after same.events (clock.start period tick)) same.tracks in
     let last = ((demand3 slots period tick some good ds).1 fair).reads in
-    rw (begins, none_yet slots before (D.Accepted (K.Setup (record { period = period; tick = tick })) ∷ ds) none, left, same.ready, cycles, last) refl
+    rw (begins, none_yet slots before (Ok (K.Setup (record { period = period; tick = tick })) ∷ ds) none, left, same.ready, cycles, last) refl
 
 -- nothing is handed out at the end, and elsewhere the record there and then the rest
 handed_end : (n : ℕ) (s : List ℕ) (at : ℕ) → records_left s at ≡ 0 → handed_from n s at ≡ []

@@ -9,11 +9,10 @@ use Rattle.counter.specs.Readings.{good_period, in_range}
 use Rattle.clock.specs.Timer.{well_formed}
 use Rattle.clock.specs.Entries.{sample_of}
 use Rattle.clock.specs.Announce.{announce_of}
-use Rattle.books.specs.Entries.{charged, with_change, onward, close_of, stop_of, switch_of, altered, reopen_of, alter_of, enter_of}
+use Rattle.books.specs.Entries.{charged, onward, close_of, stop_of, switch_of, altered, reopen_of, alter_of, enter_of}
 use Rattle.books.specs.Running.{is_running, stamp_of, unrecorded, past, busy, concerned}
 use Rattle.books.specs.Enter.{entry_of}
 use Rattle.ledger.specs.Operate.{stored_in, operate_of}
-use Rattle.ledger.specs.Records.{answer_says}
 use Rattle.ledger.specs.Sums.{sum_of}
 use Rattle.ledger.specs.Threads as ledger
 use Rattle.table.specs.Task.{task_of, asked_by}
@@ -22,9 +21,10 @@ use Rattle.books.specs.Laws.{closes, rises, too_many, full}
 use Rattle.machine.specs.Step.{announce_rows, last_rows, record_rows, done_by, accepted_by, step_of}
 use Rattle.demands.specs.Trace.{happened, seen, watch_all, FairTrace}
 use Rattle.demands.specs.Shown.{Shown}
+use Rattle.error.specs.Said.{number_in}
 
 pub shown : Shown
-unfolding enabled accumulated average_cycles cycle run_n wraps good_period in_range ran_of well_formed sample_of announce_of stamp_of is_running charged with_change onward close_of stop_of switch_of altered reopen_of alter_of enter_of unrecorded past busy entry_of concerned stored_in operate_of sum_of ledger.closes_now ledger.begins ledger.open_after ledger.tracked_after task_of asked_by malformed step_of columns happened seen watch_all FairTrace closes rises too_many full announce_rows last_rows record_rows answer_says done_by accepted_by
+unfolding enabled accumulated average_cycles cycle run_n wraps good_period in_range ran_of well_formed sample_of announce_of stamp_of is_running charged onward close_of stop_of switch_of altered reopen_of alter_of enter_of unrecorded past busy entry_of concerned stored_in operate_of sum_of ledger.closes_now ledger.begins ledger.open_after ledger.tracked_after task_of asked_by malformed step_of columns happened seen watch_all FairTrace closes rises too_many full announce_rows last_rows record_rows number_in done_by accepted_by
 shown = record {
   printed_fair = (omega arith, (omega arith, (omega arith, (omega arith, (omega arith, (omega arith, (omega arith, (omega arith, (omega arith, (omega arith, tt))))))))));
   printed_reads = (refl, refl);

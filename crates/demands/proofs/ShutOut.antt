@@ -1,4 +1,5 @@
 -- Each wrong machine falls at a short trace, or at one record and a machine handed in.
+use Rattle.std.specs.Prelude.{Ok, Err}
 use Prim.Native.Nat.{ℕ}
 use mathlib.Core.Path.{◌≡◌, refl, sym, ap}
 use mathlib.Core.Bool.{true, false, false≢true}
@@ -14,18 +15,16 @@ use Rattle.counter.specs.Readings.{good_period, in_range}
 use Rattle.clock.specs.Timer.{well_formed, GoodSetup}
 use Rattle.clock.specs.Entries.{gaps, sample_of}
 use Rattle.clock.specs.Announce.{announce_of}
-use Rattle.books.specs.Entries.{charged, with_change, onward, close_of, stop_of, switch_of, altered, reopen_of, alter_of, enter_of}
+use Rattle.books.specs.Entries.{charged, onward, close_of, stop_of, switch_of, altered, reopen_of, alter_of, enter_of}
 use Rattle.books.specs.Running.{is_running, stamp_of, unrecorded, past, busy, concerned}
 use Rattle.books.specs.Enter.{entry_of}
 use Rattle.ledger.specs.Operate.{stored_in, operate_of}
-use Rattle.ledger.specs.Records.{thread_record, answer_says}
+use Rattle.ledger.specs.Records.{thread_record}
 use Rattle.ledger.specs.Sums.{sum_of}
 use Rattle.ledger.specs.Threads as ledger
 use Rattle.trace.specs.declared.Record.TheVariants as K
-use Rattle.trace.specs.declared.Decoded.TheVariants as D
 use Rattle.machine.specs.declared.Machine.{Machine}
 use Rattle.table.specs.declared.Values.{Values}
-use Rattle.table.specs.declared.Outcome.TheVariants as Told
 use Rattle.table.specs.declared.Reason.TheVariants as Why
 use Rattle.table.specs.Task.{task_of, asked_by}
 use Rattle.table.specs.Table.{malformed, columns}
@@ -37,6 +36,7 @@ use Rattle.demands.specs.Trace.{happened, seen, watch_all, FairTrace}
 use Rattle.demands.specs.Shown.{taken}
 use Rattle.machine.specs.Shown.{at_once}
 use Rattle.demands.specs.ShutOut.{ShutOut}
+use Rattle.error.specs.Said.{number_in}
 
 -- period 10 and tick 4
 ten : GoodSetup 10 4
@@ -44,11 +44,11 @@ unfolding good_period
 ten = refl
 
 pub shut_out : ShutOut
-unfolding enabled accumulated average_cycles cycle run_n wraps good_period in_range ran_of well_formed sample_of announce_of stamp_of is_running charged with_change onward close_of stop_of switch_of altered reopen_of alter_of enter_of unrecorded past busy entry_of concerned stored_in operate_of sum_of ledger.closes_now ledger.begins ledger.open_after ledger.tracked_after task_of asked_by malformed step_of columns happened seen watch_all FairTrace closes rises too_many full announce_rows last_rows record_rows answer_says done_by accepted_by
+unfolding enabled accumulated average_cycles cycle run_n wraps good_period in_range ran_of well_formed sample_of announce_of stamp_of is_running charged onward close_of stop_of switch_of altered reopen_of alter_of enter_of unrecorded past busy entry_of concerned stored_in operate_of sum_of ledger.closes_now ledger.begins ledger.open_after ledger.tracked_after task_of asked_by malformed step_of columns happened seen watch_all FairTrace closes rises too_many full announce_rows last_rows record_rows number_in done_by accepted_by
 shut_out = record {
   refuser_falls = λ law.
-      let accepted = (law.exactly (handed.timed (handed.counter 10 10 false 0) (handed.clock 4 0 0 0)) (D.Accepted (K.Run 0))).accepted.1 (refl, (refl, (refl, (refl, (refl, (refl, (refl, (refl, tt)))))))) in
-      let e : Told.Refused Why.BadRecord ≡ Told.Accepted accepted.0 = accepted.1 in
+      let accepted = (law.exactly (handed.timed (handed.counter 10 10 false 0) (handed.clock 4 0 0 0)) (Ok (K.Run 0))).accepted.1 (refl, (refl, (refl, (refl, (refl, (refl, (refl, (refl, tt)))))))) in
+      let e : Err Why.BadRecord ≡ Ok accepted.0 = accepted.1 in
       clash (cc);
   frozen_falls = λ law.
       let e : ◌≡◌ {A = ℕ} 0 1 = ((law 2 10 4 (omega arith) ten (taken (K.Run 1 ∷ K.Sample at_once ∷ []))).1 (omega arith)).reads in
@@ -84,13 +84,13 @@ shut_out = record {
       absurd (omega arith);
   flag_gone_falls = λ law.
       let m = handed.timed (handed.counter 10 10 true max64) (handed.clock 4 0 0 4294967277) in
-      false≢true (ap (λ (n : Machine). n.timer.counter.flag) ((law.kept m (D.Accepted (K.Sample at_once))).untouched Why.AnnounceFirst refl (λ e. clash (cc))));
+      false≢true (ap (λ (n : Machine). n.timer.counter.flag) ((law.kept m (Ok (K.Sample at_once))).untouched Why.AnnounceFirst refl (λ e. clash (cc))));
   two_stamps_falls = λ law.
       let w = ((law 2 10 4 (omega arith) ten (taken (K.Run 1 ∷ K.Start 0 at_once ∷ K.Run 3 ∷ K.Switch 1 (gaps 0 0 5) ∷ K.Stop at_once ∷ []))).1 (omega arith)).chain (omega arith) in
       absurd (let high = w.high in omega arith);
   forgetful_falls = λ law.
       let m = handed.running 5 18446744073709551612 new_idle in
-      false≢true (ap (λ (n : Machine). n.ready) ((law.kept m (D.Accepted (K.Stop at_once))).sampled (K.Stop at_once) at_once refl (_, refl) refl).0);
+      false≢true (ap (λ (n : Machine). n.ready) ((law.kept m (Ok (K.Stop at_once))).sampled (K.Stop at_once) at_once refl (_, refl) refl).0);
   no_elapsed_falls = λ law.
       let e : ◌≡◌ {A = ℕ} 0 1 = ((law 2 10 4 (omega arith) ten (taken (K.Run 1 ∷ []))).1 (omega arith)).shows at_once (values 0 0) (omega arith) refl in
       clash e;

@@ -1,4 +1,5 @@
 -- Every clause and lemma of upstream's usage.rs follows from our definitions.
+use Rattle.std.specs.Prelude.{Result, Ok}
 use Prim.Native.Nat.{ℕ, ◌+◌, ◌%◌, ◌^◌, ◌≤◌, ◌<◌}
 use mathlib.Core.Path.{◌≡◌, refl, ap}
 use mathlib.Core.Bool.{Bool, true, false}
@@ -10,21 +11,21 @@ use Rattle.error.specs.Numbers.{ok, minus, max32, max64}
 use Rattle.units.specs.declared.Cycles.{Cycles}
 use Rattle.usage.specs.Leaves.{enabled, accumulated, sys_enable_decide, sys_disable_decide, start_decide, stop_decide}
 use Rattle.usage.specs.Formulas.{elapsed_stamps}
-use Rattle.usage.specs.Says.{outcome_of, changed_says, kept, sys_track_says, enable_outcome, disable_outcome, accumulate_outcome}
+use Rattle.usage.specs.Says.{outcome_of, kept, sys_track_says, enable_outcome, disable_outcome, accumulate_outcome}
 use Rattle.usage.specs.declared.ThreadUsage.{ThreadUsage}
-use Rattle.usage.specs.declared.Changed.{Changed}
-use Rattle.usage.specs.declared.Changed.TheVariants as C
-use Rattle.usage.specs.declared.Outcome.{Outcome}
+use Rattle.usage.specs.Says.{InPlace}
 use Rattle.usage.specs.declared.SysTrackDecision.TheVariants.{NoOp}
 use Rattle.usage.specs.declared.StartDecision.TheVariants.{RecordStart}
 use Rattle.usage.specs.declared.StopDecision.TheVariants.{Accumulate}
 use Rattle.usage.proofs.Outcomes as thread
 use Rattle.demands.specs.UpstreamThread.{EnableEnsures, DisableEnsures, AccumulateEnsures, ThreadClauses, ThreadLemmas, sys_enabled, sys_disabled}
 use Rattle.demands.proofs.Exactly.{either}
+use Rattle.error.specs.declared.Refusal.{Refusal}
+use Rattle.error.specs.Said.{number_in}
 
 -- an accepted change with 0 and the new record
-stored : (u v : ThreadUsage) (answer : Changed) → answer ≡ C.Accepted v → outcome_of u answer ≡ record { code = ok; usage = v }
-unfolding outcome_of changed_says kept
+stored : (u v : ThreadUsage) (answer : Result ThreadUsage Refusal) → answer ≡ Ok v → outcome_of u answer ≡ record { code = ok; usage = v }
+unfolding number_in kept
 stored u v answer e = ap (outcome_of u) e
 
 enable_clauses : (u : ThreadUsage) → (u.track_usage ≡ true) ⊎ ((u.track_usage ≡ false) × (u.num_windows ≡ max32 → ⊥)) → EnableEnsures u (enable_outcome u)
@@ -48,15 +49,15 @@ enable_clauses u (inr (off, room)) =
     })
 
 full : (u : ThreadUsage) → u.track_usage ≡ false → u.num_windows ≡ max32 → enable_outcome u ≡ record { code = minus 139; usage = u }
-unfolding outcome_of changed_says kept
+unfolding number_in kept
 full u off h = ap (outcome_of u) (thread.windows_full u off h)
 
 disable_clauses : (u : ThreadUsage) → DisableEnsures u (disable_outcome u)
-unfolding outcome_of changed_says kept
+unfolding number_in kept
 disable_clauses u = record { code = refl; untracked = refl; total = refl; windows = refl }
 
 accumulate_clauses : (u : ThreadUsage) (cycles : ℕ) → AccumulateEnsures u cycles (accumulate_outcome u cycles)
-unfolding outcome_of changed_says kept
+unfolding number_in kept
 accumulate_clauses u cycles = by_case (either (u.total_cycles.0 + cycles) max64)
   where
     by_case : (u.total_cycles.0 + cycles ≤ max64) ⊎ (max64 < u.total_cycles.0 + cycles) → AccumulateEnsures u cycles (accumulate_outcome u cycles)
@@ -118,12 +119,12 @@ only_tracked true e = refl
 only_tracked false e = clash (cc)
 
 there_and_back : (u : ThreadUsage) → u.track_usage ≡ false → (u.num_windows ≡ max32 → ⊥) → disable_outcome (enable_outcome u).usage ≡ record { code = ok; usage = record { track_usage = false; total_cycles = u.total_cycles; num_windows = u.num_windows + 1 } }
-unfolding outcome_of changed_says kept
-there_and_back u off room = ap (λ (o : Outcome). disable_outcome o.usage) (stored u _ (enabled u) (thread.window_opened u off room))
+unfolding number_in kept
+there_and_back u off room = ap (λ (o : InPlace). disable_outcome o.usage) (stored u _ (enabled u) (thread.window_opened u off room))
 
 there_and_back_tracked : (u : ThreadUsage) → u.track_usage ≡ true → disable_outcome (enable_outcome u).usage ≡ record { code = ok; usage = record { track_usage = false; total_cycles = u.total_cycles; num_windows = u.num_windows } }
-unfolding outcome_of changed_says kept
-there_and_back_tracked u on = ap (λ (o : Outcome). disable_outcome o.usage) (stored u _ (enabled u) (thread.already_tracked u on))
+unfolding number_in kept
+there_and_back_tracked u on = ap (λ (o : InPlace). disable_outcome o.usage) (stored u _ (enabled u) (thread.already_tracked u on))
 
 never_falls : (u : ThreadUsage) (cycles : ℕ) → u.total_cycles.0 ≤ (accumulate_outcome u cycles).usage.total_cycles.0
 never_falls u cycles = by_case (accumulate_clauses u cycles).code

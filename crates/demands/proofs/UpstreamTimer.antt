@@ -1,4 +1,5 @@
 -- Every clause and lemma of upstream's systick.rs follows from the exact leaves and what their answers' definitions say.
+use Rattle.std.specs.Prelude.{Ok, Err}
 use Prim.Native.Nat.{ℕ, ◌+◌, ◌-◌, ◌*◌, ◌/◌, ◌≤◌, ◌<◌, zero-le}
 use mathlib.Core.Path.{◌≡◌, refl, sym, ap, ◌∙◌}
 use mathlib.Core.Bool.{Bool, true, false, cond}
@@ -11,36 +12,32 @@ use Rattle.units.specs.declared.Cycles.{Cycles}
 use Rattle.units.specs.declared.Ticks.{Ticks}
 use Rattle.systick.specs.Leaves.{elapsed_cycles, difference, cycles_to_ticks, ticks_to_cycles, max_ticks, max_load, most_ticks, elapsed_decide, announce_decide}
 use Rattle.systick.specs.Says.{elapsed_cycles_says, cycles_to_ticks_says, ticks_to_cycles_says, max_ticks_says, elapsed_decide_says, announce_decide_says}
-use Rattle.systick.specs.declared.ElapsedCycles.TheVariants as E
-use Rattle.systick.specs.declared.CyclesToTicks.TheVariants as T
-use Rattle.systick.specs.declared.TicksToCycles.TheVariants as C
-use Rattle.systick.specs.declared.MaxTicks.TheVariants as M
-use Rattle.systick.specs.declared.AnnounceDecide.TheVariants as A
 use Rattle.systick.proofs.Outcomes as timer
 use Rattle.systick.proofs.Bounds.{product_within, product_over, quotients_keep_order}
 use Rattle.demands.specs.UpstreamTimer.{ElapsedCyclesEnsures, TicksToCyclesEnsures, ElapsedDecideEnsures, AnnounceDecideEnsures, TimerClauses, TimerLemmas}
 use Rattle.demands.proofs.Exactly.{SaysOf, said, said_bad, said_over, fits, given}
 use Rattle.demands.proofs.Leaves.{difference_exact, quotient_exact, product_exact, most_exact, announce_exact, round_trip}
+use Rattle.error.specs.Said.{number_in}
 
 -- what the answers' definitions say
-says_difference : SaysOf E.Accepted E.Refused elapsed_cycles_says 0
-unfolding elapsed_cycles_says
+says_difference : SaysOf Ok Err elapsed_cycles_says 0
+unfolding number_in
 says_difference = record { of_accepted = λ v. refl; of_refused = λ why. refl }
 
-says_ticks : SaysOf T.Accepted T.Refused cycles_to_ticks_says (record { 0 = 0 })
-unfolding cycles_to_ticks_says
+says_ticks : SaysOf Ok Err cycles_to_ticks_says (record { 0 = 0 })
+unfolding number_in
 says_ticks = record { of_accepted = λ v. refl; of_refused = λ why. refl }
 
-says_cycles : SaysOf C.Accepted C.Refused ticks_to_cycles_says (record { 0 = 0 })
-unfolding ticks_to_cycles_says
+says_cycles : SaysOf Ok Err ticks_to_cycles_says (record { 0 = 0 })
+unfolding number_in
 says_cycles = record { of_accepted = λ v. refl; of_refused = λ why. refl }
 
-says_most : SaysOf M.Accepted M.Refused max_ticks_says (record { 0 = 0 })
-unfolding max_ticks_says
+says_most : SaysOf Ok Err max_ticks_says (record { 0 = 0 })
+unfolding number_in
 says_most = record { of_accepted = λ v. refl; of_refused = λ why. refl }
 
-says_announced : SaysOf A.Accepted A.Refused announce_decide_says (record { dticks = record { 0 = 0 }; new_cycle_count = record { 0 = 0 }; new_announced_cycles = record { 0 = 0 } })
-unfolding announce_decide_says
+says_announced : SaysOf Ok Err announce_decide_says (record { dticks = record { 0 = 0 }; new_cycle_count = record { 0 = 0 }; new_announced_cycles = record { 0 = 0 } })
+unfolding number_in
 says_announced = record { of_accepted = λ v. refl; of_refused = λ why. refl }
 
 -- a difference does not pass the load
@@ -52,23 +49,23 @@ difference_within last current load a b = by_test (leb current last) refl
     by_test false e = omega (arith, leb-false current last e)
 
 -- an accepted difference is the formula's, and both values were within the load
-accepted_difference : (last current load elapsed : ℕ) → elapsed_cycles last current load ≡ E.Accepted elapsed → (last ≤ load) × (current ≤ load) × (elapsed ≡ difference last current load)
+accepted_difference : (last current load elapsed : ℕ) → elapsed_cycles last current load ≡ Ok elapsed → (last ≤ load) × (current ≤ load) × (elapsed ≡ difference last current load)
 accepted_difference last current load elapsed e =
     let is = given says_difference (difference_exact last current load) elapsed e in
     (is.0.0, is.0.1, is.1)
 
 -- an accepted quotient is the formula's, of a tick above 0
-accepted_ticks : (cycles : Cycles) (tick : ℕ) (ticks : Ticks) → cycles_to_ticks cycles tick ≡ T.Accepted ticks → (0 < tick) × (ticks.0 ≡ cycles.0 / tick)
+accepted_ticks : (cycles : Cycles) (tick : ℕ) (ticks : Ticks) → cycles_to_ticks cycles tick ≡ Ok ticks → (0 < tick) × (ticks.0 ≡ cycles.0 / tick)
 accepted_ticks cycles tick ticks e =
     let is = given says_ticks (quotient_exact cycles tick) ticks e in
     (is.0, ap (λ (t : Ticks). t.0) is.1)
 
-accepted_cycles : (ticks : Ticks) (tick : ℕ) (cycles : Cycles) → ticks_to_cycles ticks tick ≡ C.Accepted cycles → (ticks.0 * tick ≤ max64) × (cycles.0 ≡ ticks.0 * tick)
+accepted_cycles : (ticks : Ticks) (tick : ℕ) (cycles : Cycles) → ticks_to_cycles ticks tick ≡ Ok cycles → (ticks.0 * tick ≤ max64) × (cycles.0 ≡ ticks.0 * tick)
 accepted_cycles ticks tick cycles e =
     let is = given says_cycles (product_exact ticks tick) cycles e in
     (is.0, ap (λ (c : Cycles). c.0) is.1)
 
-accepted_most : (tick : ℕ) (ticks : Ticks) → max_ticks tick ≡ M.Accepted ticks → ticks.0 ≡ most_ticks tick
+accepted_most : (tick : ℕ) (ticks : Ticks) → max_ticks tick ≡ Ok ticks → ticks.0 ≡ most_ticks tick
 accepted_most tick ticks e = ap (λ (t : Ticks). t.0) (given says_most (most_exact tick) ticks e).1
 
 most_fits : (tick : ℕ) → most_ticks tick * tick ≤ max_load
@@ -92,7 +89,7 @@ elapsed_clauses last current load a b =
     }
 
 decide_clauses : (val1 val2 : ℕ) (flag : Bool) (load overflow : ℕ) → val2 ≤ load → overflow + load ≤ max32 → load - val2 + overflow + load ≤ max32 → ElapsedDecideEnsures val1 val2 flag load overflow (elapsed_decide_says (elapsed_decide val1 val2 flag load overflow))
-unfolding elapsed_decide_says
+unfolding number_in
 decide_clauses val1 val2 flag load overflow a b h =
     let said = ap elapsed_decide_says (timer.decided val1 val2 flag load overflow a h) in
     let is = ap (λ s. s.value) said in
@@ -109,11 +106,11 @@ announce_clauses count announced overflow tick p a b =
     let reads = says_announced in
     record {
       counted = λ n. ap (λ s. s.value.new_cycle_count.0) (said reads exact (fits reads exact n));
-      ticks = λ n. rw (said reads exact (fits reads exact n)) refl;
+      ticks = λ n. let is = said reads exact (fits reads exact n) in ap (λ s. s.value.dticks.0) is ∙ ap (λ (c : ℕ). (c - announced.0) / tick) (sym (ap (λ s. s.value.new_cycle_count.0) is));
     }
 
 product_clauses : (ticks : Ticks) (tick : ℕ) → TicksToCyclesEnsures ticks tick (ticks_to_cycles_says (ticks_to_cycles ticks tick))
-unfolding ticks_to_cycles_says
+unfolding number_in
 product_clauses ticks tick =
     let exact = product_exact ticks tick in
     let reads = says_cycles in
@@ -124,14 +121,14 @@ product_clauses ticks tick =
     }
 
 -- there and back, over the value that the answer says
-back_again : (ticks : Ticks) (tick : ℕ) → 0 < tick → ticks.0 ≤ max64 / tick → cycles_to_ticks (ticks_to_cycles_says (ticks_to_cycles ticks tick)).value tick ≡ T.Accepted ticks
-unfolding ticks_to_cycles_says
+back_again : (ticks : Ticks) (tick : ℕ) → 0 < tick → ticks.0 ≤ max64 / tick → cycles_to_ticks (ticks_to_cycles_says (ticks_to_cycles ticks tick)).value tick ≡ Ok ticks
+unfolding number_in
 back_again ticks tick p h =
     let given = timer.cycles_given ticks tick (product_within max64 ticks.0 tick p h) in
     round_trip ticks tick (ticks_to_cycles_says (ticks_to_cycles ticks tick)).value p
-    (given ∙ ap C.Accepted (sym (ap (λ a. (ticks_to_cycles_says a).value) given)))
+    (given ∙ ap Ok (sym (ap (λ a. (ticks_to_cycles_says a).value) given)))
 
-truncation : (cycles : Cycles) (tick : ℕ) (ticks : Ticks) → cycles.0 ≤ max64 → cycles_to_ticks cycles tick ≡ T.Accepted ticks → (ticks_to_cycles ticks tick ≡ C.Accepted (record { 0 = ticks.0 * tick })) × (ticks.0 * tick ≤ cycles.0) × (cycles.0 < ticks.0 * tick + tick)
+truncation : (cycles : Cycles) (tick : ℕ) (ticks : Ticks) → cycles.0 ≤ max64 → cycles_to_ticks cycles tick ≡ Ok ticks → (ticks_to_cycles ticks tick ≡ Ok (record { 0 = ticks.0 * tick })) × (ticks.0 * tick ≤ cycles.0) × (cycles.0 < ticks.0 * tick + tick)
 truncation cycles tick ticks h e =
     let facts = accepted_ticks cycles tick ticks e in
     let below : ticks.0 * tick ≤ cycles.0 = rw facts.1 (div-mul-le_self cycles.0 tick) in
@@ -164,8 +161,8 @@ timer_lemmas = record {
       rw (one.1, two.1) (quotients_keep_order c1.0 c2.0 tick one.0 h);
   lemma_counter_bounded = λ last current load elapsed h e. let facts = accepted_difference last current load elapsed e in rw facts.2 (le_trans (difference_within last current load facts.0 facts.1) h);
   max_ticks_fit = λ tick ticks e. rw (accepted_most tick ticks e) (most_fits tick);
-  lemma_wrap_symmetry = λ last current load h b. timer.wrapped last current load b h ∙ ap E.Accepted (omega arith);
-  lemma_zero_elapsed = λ count load h. timer.counted_down count count load h (omega arith) ∙ ap E.Accepted (omega arith);
+  lemma_wrap_symmetry = λ last current load h b. timer.wrapped last current load b h ∙ ap Ok (omega arith);
+  lemma_zero_elapsed = λ count load h. timer.counted_down count count load h (omega arith) ∙ ap Ok (omega arith);
   lemma_conversion_truncation = truncation;
   ticks_within = λ cycles tick ticks e. rw (accepted_ticks cycles tick ticks e).1 (div-le_self cycles.0 tick);
   cycles_fit = λ ticks tick cycles e. let facts = accepted_cycles ticks tick cycles e in rw facts.1 facts.0;

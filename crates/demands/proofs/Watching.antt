@@ -1,4 +1,5 @@
 -- The machine and its onlooker stay together, record by record, with no premises.
+use Rattle.std.specs.Prelude.{Result, Ok, Err}
 use Prim.Native.Nat.{ℕ, ◌+◌, ◌*◌, ◌<◌}
 use mathlib.Core.Path.{◌≡◌, refl, sym, ap, ◌∙◌, subst}
 use mathlib.Core.Bool.{Bool, true, false, cond}
@@ -10,21 +11,16 @@ use Rattle.error.proofs.Ordered.{by_outcome}
 use Rattle.units.specs.declared.Cycles.{Cycles}
 use Rattle.usage.specs.Formulas.{new_idle}
 use Rattle.counter.specs.Cycle.{run_n, wraps}
-use Rattle.clock.specs.declared.Gaps.{Gaps}
+use Rattle.counter.specs.declared.Gaps.{Gaps}
 use Rattle.clock.specs.declared.Timer.{Timer}
 use Rattle.clock.specs.declared.Announcement.{Announcement}
-use Rattle.clock.specs.declared.Announced.TheVariants as N
 use Rattle.clock.specs.Announce.{announce_of}
 use Rattle.clock.specs.Timer.{GoodSetup}
 use Rattle.clock.proofs.Run as clock
 use Rattle.clock.proofs.Runs.{every_run}
 use Rattle.books.specs.declared.Operation.{Operation}
-use Rattle.books.specs.declared.Entered.{Entered}
-use Rattle.books.specs.declared.Entered.TheVariants as E
 use Rattle.books.specs.Running.{concerned}
 use Rattle.ledger.specs.declared.Ledger.{Ledger}
-use Rattle.ledger.specs.declared.Answer.{Answer}
-use Rattle.ledger.specs.declared.Answer.TheVariants as A
 use Rattle.ledger.specs.declared.Ledgered.{Ledgered}
 use Rattle.ledger.specs.Operate.{refused_with, stored_in, operate_tests, operate_of}
 use Rattle.ledger.specs.Records.{fresh_ledger}
@@ -32,10 +28,8 @@ use Rattle.trace.specs.declared.Record.{Record}
 use Rattle.trace.specs.declared.Record.TheVariants as K
 use Rattle.ledger.specs.Threads.{begins}
 use Rattle.ledger.proofs.Run as ledger
-use Rattle.trace.specs.declared.Decoded.{Decoded}
-use Rattle.trace.specs.declared.Decoded.TheVariants as D
+use Rattle.trace.specs.Decode.{Decoded}
 use Rattle.table.specs.declared.Reason.TheVariants as Why
-use Rattle.table.specs.declared.Outcome.TheVariants as Told
 use Rattle.table.specs.declared.tasks.Task.{Task}
 use Rattle.table.specs.declared.tasks.Task.TheVariants as T
 use Rattle.table.specs.declared.tasks.Then.TheVariants as W
@@ -49,6 +43,8 @@ use Rattle.machine.proofs.Stepping.{task_step, Touches}
 use Rattle.demands.specs.Trace.{Does, nothing, runs, tell, samples, operates, Watched, seen, watch, watch_all, at_setup, happened}
 use Rattle.demands.proofs.Counting.{Tracks}
 use Rattle.demands.proofs.Moving.{task_does, happened_by, happened_is, Ending, taken, summed, left, time_of, on_and_on, entries_on, ending, Moved, moved, Follows, follows, answered_of, adds, told_of, announced_after, sum_adds, sum_announces, refused_left}
+use Rattle.books.specs.declared.Entry.{Entry}
+use Rattle.error.specs.declared.Refusal.{Refusal}
 
 -- the onlooker's sum goes up by as much
 abbrev pub Rise : Watched → Type 0
@@ -99,25 +95,25 @@ pub record Same (slots period tick : ℕ) (w : Watched) : Type 0 where
   pub told : w.machine.timer.clock.announced.0 ≡ w.ticks * tick
 
 -- the table keeps its size
-stored_slots : (l : Ledger) (k : ℕ) (x : Entered) → length (stored_in l k x).ledger.threads ≡ length l.threads
+stored_slots : (l : Ledger) (k : ℕ) (x : Result Entry Refusal) → length (stored_in l k x).ledger.threads ≡ length l.threads
 unfolding stored_in
-stored_slots l k (E.Accepted e) = length-set l.threads k e.usage
-stored_slots l k (E.Refused why) = refl
+stored_slots l k (Ok e) = length-set l.threads k e.usage
+stored_slots l k (Err why) = refl
 
 pub operate_slots : (l : Ledger) (reading : Cycles) (op : Operation) → length (operate_of l reading op).ledger.threads ≡ length l.threads
 unfolding operate_of
 operate_slots l reading op = by_outcome (refused_with l) _ (λ (x : Ledgered). length x.ledger.threads ≡ length l.threads) (operate_tests l op) (λ why. refl) (λ none. stored _)
   where
-    stored : (x : Entered) → length (stored_in l (concerned l.books op) x).ledger.threads ≡ length l.threads
+    stored : (x : Result Entry Refusal) → length (stored_in l (concerned l.books op) x).ledger.threads ≡ length l.threads
     stored = stored_slots l (concerned l.books op)
 
 step_slots : (e : ledger.Event) (w : ledger.World) → length (ledger.step e w).ledger.threads ≡ length w.ledger.threads
 unfolding ledger.step
 step_slots e w = by_answer (operate_of w.ledger (record { 0 = e.time }) e.operation).answer ∙ operate_slots w.ledger (record { 0 = e.time }) e.operation
   where
-    by_answer : (a : Answer) → length (ledger.after_answer w e (operate_of w.ledger (record { 0 = e.time }) e.operation).ledger a).ledger.threads ≡ length (operate_of w.ledger (record { 0 = e.time }) e.operation).ledger.threads
-    by_answer (A.Accepted cycles) = refl
-    by_answer (A.Refused why) = refl
+    by_answer : (a : Result ℕ Refusal) → length (ledger.after_answer w e (operate_of w.ledger (record { 0 = e.time }) e.operation).ledger a).ledger.threads ≡ length (operate_of w.ledger (record { 0 = e.time }) e.operation).ledger.threads
+    by_answer (Ok cycles) = refl
+    by_answer (Err why) = refl
 
 after_slots : (es : List ledger.Event) (w : ledger.World) → length (ledger.after es w).ledger.threads ≡ length w.ledger.threads
 unfolding ledger.after
@@ -132,13 +128,13 @@ abbrev pub after_task : Task → Watched → Watched
 after_task task w = seen (happened_by task (task_step w.machine task).outcome) (task_step w.machine task).machine w
 
 -- which is what it keeps after the record
-pub watched_task : (r : Record) (w : Watched) → watch step_of (D.Accepted r) w ≡ after_task (task_of r) w
+pub watched_task : (r : Record) (w : Watched) → watch step_of (Ok r) w ≡ after_task (task_of r) w
 watched_task r w =
-    ap (λ (d : Does). seen d (step_of w.machine (D.Accepted r)).machine w) (happened_is w.machine r) ∙
+    ap (λ (d : Does). seen d (step_of w.machine (Ok r)).machine w) (happened_is w.machine r) ∙
     ap (λ (s : Stepped). seen (happened_by (task_of r) (task_step w.machine (task_of r)).outcome) s.machine w) (stepping.of_task w.machine r)
 
 module _ {slots period tick : ℕ} (some : 0 < slots) (good : GoodSetup period tick) where
-  pub announces : (w : Watched) → Same slots period tick w → (a : Announcement) × (announce_of w.machine.timer ≡ N.Accepted a)
+  pub announces : (w : Watched) → Same slots period tick w → (a : Announcement) × (announce_of w.machine.timer ≡ Ok a)
   announces w same =
       let a = (every_run period tick good same.events).always.announce_accepted in
       (a.0, ap announce_of same.timer ∙ a.1)
@@ -184,7 +180,7 @@ module _ {slots period tick : ℕ} (some : 0 < slots) (good : GoodSetup period t
   unfolding happened_by columns seen answered_of told_of
   task_same task w same = by_ending (ending w.machine task)
     where
-      after_sum : (g : Gaps) (op : Operation) → (task_step w.machine (T.Sample g (W.Operate op))).outcome ≡ Told.Refused Why.WontFit → Touches w.machine (T.Sample g (W.Operate op)) → Same slots period tick (after_task (T.Sample g (W.Operate op)) w)
+      after_sum : (g : Gaps) (op : Operation) → (task_step w.machine (T.Sample g (W.Operate op))).outcome ≡ Err Why.WontFit → Touches w.machine (T.Sample g (W.Operate op)) → Same slots period tick (after_task (T.Sample g (W.Operate op)) w)
       after_sum g op e t = rw e (touched_same w (T.Sample g (W.Operate op)) same t (samples g) 0 refl refl (sum_adds w.machine g op e) (sum_announces w.machine g op e))
 
       by_ending : Ending w.machine task → Same slots period tick (after_task task w)
@@ -194,8 +190,8 @@ module _ {slots period tick : ℕ} (some : 0 < slots) (good : GoodSetup period t
 
   pub watch_same : (d : Decoded) (w : Watched) → Same slots period tick w → Same slots period tick (watch step_of d w)
   unfolding happened
-  watch_same (D.Accepted r) w same = subst (Same slots period tick) (sym (watched_task r w)) (task_same (task_of r) w same)
-  watch_same (D.Refused why) w same = left_same w _ (refused_left w.machine why) same
+  watch_same (Ok r) w same = subst (Same slots period tick) (sym (watched_task r w)) (task_same (task_of r) w same)
+  watch_same (Err why) w same = left_same w _ (refused_left w.machine why) same
 
   pub all_same : (ds : List Decoded) (w : Watched) → Same slots period tick w → Same slots period tick (watch_all step_of ds w)
   unfolding watch_all

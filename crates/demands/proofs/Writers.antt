@@ -1,4 +1,5 @@
 -- Each writer puts its text into the room that it asks for, or turns the buffer away.
+use Rattle.std.specs.Prelude.{Ok, Err}
 use Prim.Native.Nat.{ℕ, ◌+◌, ◌*◌, ◌/◌, ◌≤◌, ◌<◌}
 use mathlib.Core.Path.{◌≡◌, refl, ap, ◌∙◌}
 use mathlib.Core.Bool.{Bool, true, false, cond, ◌||◌}
@@ -11,7 +12,6 @@ use borrow.Author.Tests.{le-leb, lt-leb, le-ltb, lt-ltb}
 use Rattle.error.specs.declared.Refusal.TheVariants.{NoSpace, Overflow}
 use Rattle.error.specs.Numbers.{max64}
 use Rattle.machine.specs.declared.Machine.{Machine}
-use Rattle.lines.specs.declared.Written.TheVariants as W
 use Rattle.lines.specs.Buffer.{fits, put_of, written_of, roomy_put, roomy_written}
 use Rattle.lines.specs.Naming.{label_text, label_put, label_of}
 use Rattle.lines.specs.Text.{decimal}
@@ -40,8 +40,8 @@ longest_room room buffer at text = record { enough = λ h. rw (le-ltb _ _ h) (re
 labels : (buffer : List ℕ) (at n : ℕ) →
     let kept = cond (eqb (n / 100) 0 || leb 100000000 (n / 100)) [] (sets (replicate 8 0) 0 (decimal (n / 100))) in
     let text = decimal (cond (ltb max64 n) 0 n) ++ 32 ∷ [] in
-    (at + 75 ≤ length buffer → (roomy_written 75 buffer at (label_text (label_of n)) ≡ W.Accepted (at + length text)) × (label_put buffer at (label_of n) ≡ sets (sets buffer at kept) at text)) ×
-    (length buffer < at + 75 → (roomy_written 75 buffer at (label_text (label_of n)) ≡ W.Refused NoSpace) × (label_put buffer at (label_of n) ≡ buffer))
+    (at + 75 ≤ length buffer → (roomy_written 75 buffer at (label_text (label_of n)) ≡ Ok (at + length text)) × (label_put buffer at (label_of n) ≡ sets (sets buffer at kept) at text)) ×
+    (length buffer < at + 75 → (roomy_written 75 buffer at (label_text (label_of n)) ≡ Err NoSpace) × (label_put buffer at (label_of n) ≡ buffer))
 unfolding roomy_written label_put
 labels buffer at n = (
   (λ h. rw (le-ltb _ _ h, text_of n, underneath_of n) (refl, refl)),
@@ -51,7 +51,7 @@ labels buffer at n = (
 replays : (slots : ℕ) (s out : List ℕ) → Writes (room_of (length s)) out 0 (trace_text slots s) (replay_of slots s out) (replayed_of slots s out)
 unfolding replay_of replayed_of room_for
 replays slots s out = record {
-  enough = λ h. let room : room_of (length s) ≤ length out = omega (arith, h) in rw (le-ltb _ _ room) (ap W.Accepted (omega arith), refl);
+  enough = λ h. let room : room_of (length s) ≤ length out = omega (arith, h) in rw (le-ltb _ _ room) (ap Ok (omega arith), refl);
   no_room = λ h. let room : length out < room_of (length s) = omega (arith, h) in rw (lt-ltb _ _ room) (refl, refl);
 }
 
@@ -60,14 +60,14 @@ module _ (m : Machine) (first : ℕ) (s out : List ℕ) (at : ℕ) where
   unfolding part_of part_buffer
   part_written few = record { enough = λ h. rw (le-ltb _ _ few, le-ltb _ _ h) (refl, refl); no_room = λ h. rw (le-ltb _ _ few, lt-ltb _ _ h) (refl, refl) }
 
-  part_numbers : max64 < first + length s / 16 → ((part_of m first s out at).written ≡ W.Refused Overflow) × (part_buffer m first s out at ≡ out)
+  part_numbers : max64 < first + length s / 16 → ((part_of m first s out at).written ≡ Err Overflow) × (part_buffer m first s out at ≡ out)
   unfolding part_of part_buffer
   part_numbers many = rw (lt-ltb _ _ many) (refl, refl)
 
   part_machine : (part_of m first s out at).machine ≡ cond (ltb max64 (first + length s / 16) || ltb (length out) (at + length s / 16 * 75)) m (machine_after m (whole_records s))
   unfolding part_of
   part_machine =
-      let part : Part = record { written = W.Accepted (at + length (lines_from m first (whole_records s))); machine = machine_after m (whole_records s) } in
+      let part : Part = record { written = Ok (at + length (lines_from m first (whole_records s))); machine = machine_after m (whole_records s) } in
       machine_of m (ltb max64 (first + length s / 16)) (ltb (length out) (at + length s / 16 * 75)) (part_refused m Overflow) (part_refused m NoSpace) part refl refl
 
 -- what a contract says of answer and buffer

@@ -1,13 +1,12 @@
 -- Believed: what a record changes, worked out before anything is touched: the table's rows in order, and then only what is new of the state.
-use Rattle.std.specs.Prelude.{ℕ, ◌≡◌, Bool, false, List, [], ◌∷◌, ◌++◌}
+use Rattle.std.specs.Prelude.{ℕ, ◌≡◌, Bool, false, List, [], ◌∷◌, ◌++◌, Ok, Err, Result}
 use Rattle.std.specs.Borrow.{Bor}
 use Rattle.error.specs.InOrder.{Row, in_order}
 use Rattle.counter.specs.Cycle.{run_n}
 use Rattle.clock.specs.Timer.{setup}
 use Rattle.clock.specs.Sample.{sample_value}
 use Rattle.clock.specs.Announce.{announcement, announce_of}
-use Rattle.trace.specs.declared.Decoded.{Decoded}
-use Rattle.trace.specs.declared.Decoded.TheVariants as D
+use Rattle.trace.specs.Decode.{Decoded}
 use Rattle.trace.specs.Decode.{decode_of}
 use Rattle.table.specs.declared.Core.{Core}
 use Rattle.table.specs.declared.Reason.{Reason}
@@ -42,13 +41,13 @@ new_by c T.Announce = X.Told (announcement c.timer).timer (announcement_tells (a
 new_by c (T.Report i) = X.Report i
 new_by c (T.Setup s) = X.Fresh (setup s.period s.tick)
 
-unfoldable pub record_by : Core → ℕ → Decoded → Change
-record_by c slots (D.Accepted r) = in_order (table c (asked_by c.books slots (task_of r)) ++ leaf_rows c (task_of r)) X.Refused (new_by c (task_of r))
-record_by c slots (D.Refused why) = X.Refused Why.BadRecord
+unfoldable pub record_by : Core → ℕ → Decoded → Result Change Reason
+record_by c slots (Ok r) = in_order (table c (asked_by c.books slots (task_of r)) ++ leaf_rows c (task_of r)) Err (Ok (new_by c (task_of r)))
+record_by c slots (Err why) = Err Why.BadRecord
 
 -- a malformed state before all
-abbrev pub change_by : Bool → Core → ℕ → Decoded → Change
-change_by broken c slots d = in_order ((broken, Why.Malformed) ∷ []) X.Refused (record_by c slots d)
+abbrev pub change_by : Bool → Core → ℕ → Decoded → Result Change Reason
+change_by broken c slots d = in_order ((broken, Why.Malformed) ∷ []) Err (record_by c slots d)
 
 pub record ChangesExact : Type 0 where
   pub change_of_lem : Gives3 changes-change-of.Post (λ c slots d. change_by (malformed c slots) c slots d)

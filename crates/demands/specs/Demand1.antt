@@ -1,18 +1,16 @@
 -- Believed: demand 1, of any machine handed in and any bytes or record. What is refused with which number, and what a refusal leaves.
-use Rattle.std.specs.Prelude.{ℕ, ◌<◌, ◌≡◌, true, List, leb}
+use Rattle.std.specs.Prelude.{ℕ, ◌<◌, ◌≡◌, true, List, leb, Ok, Err}
 use Rattle.error.specs.Numbers.{max32}
-use Rattle.clock.specs.declared.Gaps.{Gaps}
+use Rattle.counter.specs.declared.Gaps.{Gaps}
 use Rattle.clock.specs.Timer.{GoodSetup}
 use Rattle.books.specs.Running.{no_thread}
 use Rattle.ledger.specs.Records.{thread_record}
 use Rattle.trace.specs.declared.Record.{Record}
 use Rattle.trace.specs.declared.Record.TheVariants as K
-use Rattle.trace.specs.declared.Decoded.{Decoded}
-use Rattle.trace.specs.declared.Decoded.TheVariants as D
+use Rattle.trace.specs.Decode.{Decoded}
 use Rattle.trace.specs.Bytes.{Decodes}
 use Rattle.table.specs.declared.Reason.TheVariants as Why
 use Rattle.table.specs.declared.Values.{Values}
-use Rattle.table.specs.declared.Outcome.TheVariants as Told
 use Rattle.machine.specs.declared.Machine.{Machine}
 use Rattle.machine.specs.declared.Stepped.{Stepped}
 use Rattle.machine.specs.Step.{slots_of, fresh_machine}
@@ -26,14 +24,14 @@ module _ (step : Machine → Decoded → Stepped) (period : ℕ) where
   pub record FromSetup (w : Watched) : Type 0 where
     pub ready : w.machine.ready ≡ true
     pub whole : Whole w.machine
-    pub announces : (answered : Values) × ((step w.machine (D.Accepted K.Announce)).outcome ≡ Told.Accepted answered)
+    pub announces : (answered : Values) × ((step w.machine (Ok K.Announce)).outcome ≡ Ok answered)
 
   -- in a fair run no sum is refused: where -139 comes after the touch, a count of windows is full
   abbrev pub NoSumRefused : Watched → Type 0
   NoSumRefused w =
       (r : Record) →
       Fair period w.ran w.at_c (does_of r 0) →
-      (step w.machine (D.Accepted r)).outcome ≡ Told.Refused Why.WontFit →
+      (step w.machine (Ok r)).outcome ≡ Err Why.WontFit →
       (i : ℕ) × (g : Gaps) × (r ≡ K.Enable i g) × ((thread_record w.machine.ledger i).num_windows ≡ max32)
 
 pub record Demand1 (step : Machine → Decoded → Stepped) : Type 0 where

@@ -2,7 +2,7 @@
 use Rattle.books.specs.Laws.{EveryEntry}
 use Rattle.ledger.specs.Laws.{EveryOperation, OperationNumbers}
 use Rattle.ledger.specs.Sums.{StampsNear}
-use Rattle.trace.specs.declared.Decoded.{Decoded}
+use Rattle.trace.specs.Decode.{Decoded}
 use Rattle.machine.specs.declared.Machine.{Machine}
 use Rattle.machine.specs.declared.Stepped.{Stepped}
 use Rattle.machine.specs.Laws.{Exactly, EveryAnswer}

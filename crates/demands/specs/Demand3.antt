@@ -1,15 +1,13 @@
 -- Believed: demand 3, over whole traces from setup. Any list of records, refused ones included, by a machine's own step.
-use Rattle.std.specs.Prelude.{ℕ, ◌+◌, ◌*◌, ◌/◌, ◌≤◌, ◌<◌, ◌≡◌, List}
-use Rattle.clock.specs.declared.Gaps.{Gaps}
+use Rattle.std.specs.Prelude.{ℕ, ◌+◌, ◌*◌, ◌/◌, ◌≤◌, ◌<◌, ◌≡◌, List, Ok}
+use Rattle.counter.specs.declared.Gaps.{Gaps}
 use Rattle.clock.specs.Timer.{GoodSetup}
 use Rattle.clock.specs.Multiple.{LargestMultiple}
 use Rattle.ledger.specs.Records.{thread_record}
 use Rattle.ledger.specs.Sums.{TotalNear, ChainNear}
 use Rattle.trace.specs.declared.Record.TheVariants as K
-use Rattle.trace.specs.declared.Decoded.{Decoded}
-use Rattle.trace.specs.declared.Decoded.TheVariants as D
+use Rattle.trace.specs.Decode.{Decoded}
 use Rattle.table.specs.declared.Values.{Values}
-use Rattle.table.specs.declared.Outcome.TheVariants as Told
 use Rattle.machine.specs.declared.Machine.{Machine}
 use Rattle.machine.specs.declared.Stepped.{Stepped}
 use Rattle.demands.specs.Trace.{Watched, FairSample, wraps_by, time_c, watch_all, at_setup, FairTrace}
@@ -25,7 +23,7 @@ module _ (step : Machine → Decoded → Stepped) (period tick : ℕ) where
 
   -- with no premises, after any trace
   pub record Always (w : Watched) : Type 0 where
-    pub announcement : (answered : Values) → (step w.machine (D.Accepted K.Announce)).outcome ≡ Told.Accepted answered → Announces w.machine (step w.machine (D.Accepted K.Announce)).machine answered
+    pub announcement : (answered : Values) → (step w.machine (Ok K.Announce)).outcome ≡ Ok answered → Announces w.machine (step w.machine (Ok K.Announce)).machine answered
     -- T is the cycles run, and announced the ticks answered, times the tick
     pub cycles : w.machine.timer.counter.cycles.0 ≡ w.ran
     pub announced : w.machine.timer.clock.announced.0 ≡ w.ticks * tick
@@ -40,7 +38,7 @@ module _ (step : Machine → Decoded → Stepped) (period tick : ℕ) where
     pub reads : w.machine.timer.clock.last.0 ≡ w.at_c
     -- and each real wrap up to then is counted, once
     pub each_wrap_once : w.machine.timer.clock.count.0 + w.machine.timer.clock.overflow ≡ wraps_by period w.at_c * period
-    pub shows : (g : Gaps) (answered : Values) → FairSample period w.ran w.at_c g → (step w.machine (D.Accepted (K.Sample g))).outcome ≡ Told.Accepted answered → w.machine.timer.clock.count.0 + answered.x ≡ time_c w.ran g
+    pub shows : (g : Gaps) (answered : Values) → FairSample period w.ran w.at_c g → (step w.machine (Ok (K.Sample g))).outcome ≡ Ok answered → w.machine.timer.clock.count.0 + answered.x ≡ time_c w.ran g
     -- each thread's total misses its true tracked cycles, over closed stretches, by at most one per stretch that begins or ends on a multiple of 2^32, where none exceeds 2^32 - 2 cycles
     pub totals : (i : ℕ) → TotalNear i (thread_record w.machine.ledger i).total_cycles.0 w.threads.closed
     -- all stretches since one start, summed as they were answered, miss by at most one

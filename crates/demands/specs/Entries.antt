@@ -1,45 +1,38 @@
 -- Believed: the entries of counter and clock, and a ledger's report. Each refuses with the reason of the first of its tests that holds, and answers 01's value where none does.
-use Rattle.std.specs.Prelude.{ℕ, ◌+◌, not, cond, [], ◌∷◌, length, leb, eqb}
+use Rattle.std.specs.Prelude.{ℕ, ◌+◌, not, cond, [], ◌∷◌, length, leb, eqb, Ok, Err}
 use Rattle.error.specs.declared.Refusal.TheVariants.{BadThread, Again, Invalid, Overflow}
 use Rattle.systick.specs.Decisions.{announce_tests}
 use Rattle.counter.specs.declared.Counter.{Counter}
-use Rattle.counter.specs.declared.Ran.TheVariants as R
-use Rattle.counter.specs.declared.SampleRead.TheVariants as Sample
-use Rattle.counter.specs.declared.ValueRead.TheVariants as Read
 use Rattle.counter.specs.Cycle.{fresh_counter, run_n}
-use Rattle.counter.specs.Readings.{good_period, in_range, cycles_above, readings_from}
+use Rattle.counter.specs.Readings.{good_period, in_range, cycles_above, readings_from, cycles_of}
 use Rattle.counter.proofs.started.Reads as counter-started
 use Rattle.counter.proofs.run.Reads as counter-run
 use Rattle.counter.proofs.readings.Reads as counter-readings
 use Rattle.counter.proofs.value_of.Reads as counter-value-of
 use Rattle.clock.specs.declared.Timer.{Timer}
-use Rattle.clock.specs.declared.Gaps.{Gaps}
-use Rattle.clock.specs.declared.SetUp.TheVariants as U
-use Rattle.clock.specs.declared.Sampled.TheVariants as S
-use Rattle.clock.specs.declared.Announced.TheVariants as A
+use Rattle.counter.specs.declared.Gaps.{Gaps}
 use Rattle.clock.specs.Timer.{setup, bad_setup, well_formed}
-use Rattle.clock.specs.Sample.{cycles_of, sample_value, crowded}
+use Rattle.clock.specs.Sample.{sample_value, crowded}
 use Rattle.clock.specs.Announce.{announcement}
 use Rattle.clock.proofs.set_up.Reads as clock-set-up
 use Rattle.clock.proofs.sample.Reads as clock-sample
 use Rattle.clock.proofs.announce.Reads as clock-announce
 use Rattle.books.specs.Running.{no_thread, unrecorded}
 use Rattle.ledger.specs.declared.Ledger.{Ledger}
-use Rattle.ledger.specs.declared.Reported.TheVariants as P
 use Rattle.ledger.specs.Records.{thread_record, report_value}
 use Rattle.ledger.proofs.report.Reads as ledger-report
 use Rattle.demands.specs.Contract.{Every}
 use Rattle.demands.specs.Exact.{ByRows}
 
 pub record EntriesExact : Type 0 where
-  pub started : (period : ℕ) → Every counter-started.Post (period, tt) (λ r. ByRows R.Accepted R.Refused r ((not (good_period period), Invalid) ∷ []) (fresh_counter period))
-  pub run : (c : Counter) (n : ℕ) → Every counter-run.Post (c, (n, tt)) (λ r. ByRows R.Accepted R.Refused r ((not (in_range c), Invalid) ∷ (cycles_above c n, Overflow) ∷ []) (run_n n c))
-  pub readings : (a : Counter) (p q r : ℕ) → Every counter-readings.Post (a, (p, (q, (r, tt)))) (λ answer. ByRows Sample.Accepted Sample.Refused answer ((not (in_range a), Invalid) ∷ (cycles_above a (p + q + r), Overflow) ∷ []) (readings_from a p q r))
+  pub started : (period : ℕ) → Every counter-started.Post (period, tt) (λ r. ByRows Ok Err r ((not (good_period period), Invalid) ∷ []) (fresh_counter period))
+  pub run : (c : Counter) (n : ℕ) → Every counter-run.Post (c, (n, tt)) (λ r. ByRows Ok Err r ((not (in_range c), Invalid) ∷ (cycles_above c n, Overflow) ∷ []) (run_n n c))
+  pub readings : (a : Counter) (g : Gaps) → Every counter-readings.Post (a, (g, tt)) (λ answer. ByRows Ok Err answer ((not (in_range a), Invalid) ∷ (cycles_above a (g.p + g.q + g.r), Overflow) ∷ []) (readings_from a g.p g.q g.r))
   -- a raw 0 is read as L; raw at or above L, or a bad L: -22
-  pub value : (raw period : ℕ) → Every counter-value-of.Post (raw, (period, tt)) (λ r. ByRows Read.Accepted Read.Refused r ((not (good_period period), Invalid) ∷ (leb period raw, Invalid) ∷ []) (cond (eqb raw 0) period raw))
-  pub set_up_lem : (period tick : ℕ) → Every clock-set-up.Post (period, (tick, tt)) (λ r. ByRows U.Accepted U.Refused r ((bad_setup period tick, Invalid) ∷ []) (setup period tick))
+  pub value : (raw period : ℕ) → Every counter-value-of.Post (raw, (period, tt)) (λ r. ByRows Ok Err r ((not (good_period period), Invalid) ∷ (leb period raw, Invalid) ∷ []) (cond (eqb raw 0) period raw))
+  pub set_up_lem : (period tick : ℕ) → Every clock-set-up.Post (period, (tick, tt)) (λ r. ByRows Ok Err r ((bad_setup period tick, Invalid) ∷ []) (setup period tick))
   -- before any touch: a malformed state, -22; no room in the overflow, -11; T past 2^64 - 1, -139
-  pub sample : (t : Timer) (g : Gaps) → Every clock-sample.Post (t, (g, tt)) (λ r. ByRows S.Accepted S.Refused r ((not (well_formed t), Invalid) ∷ (crowded t, Again) ∷ (cycles_above t.counter (cycles_of g), Overflow) ∷ []) (sample_value t g))
-  pub announce : (t : Timer) → Every clock-announce.Post (t, tt) (λ r. ByRows A.Accepted A.Refused r ((not (well_formed t), Invalid) ∷ announce_tests t.clock.count t.clock.announced t.clock.overflow t.clock.tick) (announcement t))
+  pub sample : (t : Timer) (g : Gaps) → Every clock-sample.Post (t, (g, tt)) (λ r. ByRows Ok Err r ((not (well_formed t), Invalid) ∷ (crowded t, Again) ∷ (cycles_above t.counter (cycles_of g), Overflow) ∷ []) (sample_value t g))
+  pub announce : (t : Timer) → Every clock-announce.Post (t, tt) (λ r. ByRows Ok Err r ((not (well_formed t), Invalid) ∷ announce_tests t.clock.count t.clock.announced t.clock.overflow t.clock.tick) (announcement t))
   -- a running thread without a record, then a thread past the table
-  pub report : (l : Ledger) (i : ℕ) → Every ledger-report.Post (l, (i, tt)) (λ r. ByRows P.Accepted P.Refused r ((unrecorded l.books (length l.threads), Invalid) ∷ (no_thread (length l.threads) i, BadThread) ∷ []) (report_value (thread_record l i)))
+  pub report : (l : Ledger) (i : ℕ) → Every ledger-report.Post (l, (i, tt)) (λ r. ByRows Ok Err r ((unrecorded l.books (length l.threads), Invalid) ∷ (no_thread (length l.threads) i, BadThread) ∷ []) (report_value (thread_record l i)))

@@ -1,5 +1,5 @@
--- Believed: the exports on plain numbers. Each gives what a reader makes of the leaf's answer; flags are 0 and 1.
-use Rattle.std.specs.Prelude.{ℕ, ◌≡◌, Bool}
+-- Believed: the exports on plain numbers. Each gives what is read off the leaf's answer; flags are 0 and 1.
+use Rattle.std.specs.Prelude.{ℕ, ◌≡◌, Bool, Result, Ok, Err}
 use Rattle.error.specs.Numbers.{ok}
 use Rattle.units.specs.declared.Cycles.{Cycles}
 use Rattle.units.specs.declared.Ticks.{Ticks}
@@ -23,29 +23,9 @@ use Rattle.usage.proofs.stop_decide.Reads as leaf-stop-decide
 use Rattle.usage.proofs.elapsed_cycles.Reads as leaf-stamps-apart
 use Rattle.usage.proofs.ThreadUsage.new_idle.Reads as leaf-new-idle
 use Rattle.counter.proofs.value_of.Reads as leaf-value-of
-use Rattle.systick.proofs.ElapsedCycles.number.Reads as ElapsedCycles-number
-use Rattle.systick.proofs.ElapsedCycles.cycles.Reads as ElapsedCycles-cycles
-use Rattle.systick.proofs.CyclesToTicks.number.Reads as CyclesToTicks-number
-use Rattle.systick.proofs.CyclesToTicks.ticks.Reads as CyclesToTicks-ticks
-use Rattle.systick.proofs.TicksToCycles.number.Reads as TicksToCycles-number
-use Rattle.systick.proofs.TicksToCycles.cycles.Reads as TicksToCycles-cycles
-use Rattle.systick.proofs.MaxTicks.number.Reads as MaxTicks-number
-use Rattle.systick.proofs.MaxTicks.ticks.Reads as MaxTicks-ticks
-use Rattle.systick.proofs.ElapsedDecide.number.Reads as ElapsedDecide-number
-use Rattle.systick.proofs.ElapsedDecide.wrap_detected.Reads as ElapsedDecide-wrap-detected
-use Rattle.systick.proofs.ElapsedDecide.new_overflow_cyc.Reads as ElapsedDecide-new-overflow-cyc
-use Rattle.systick.proofs.ElapsedDecide.elapsed.Reads as ElapsedDecide-elapsed
-use Rattle.systick.proofs.AnnounceDecide.number.Reads as AnnounceDecide-number
-use Rattle.systick.proofs.AnnounceDecide.dticks.Reads as AnnounceDecide-dticks
-use Rattle.systick.proofs.AnnounceDecide.new_cycle_count.Reads as AnnounceDecide-new-cycle-count
-use Rattle.systick.proofs.AnnounceDecide.new_announced_cycles.Reads as AnnounceDecide-new-announced-cycles
-use Rattle.usage.proofs.Changed.number.Reads as Changed-number
-use Rattle.usage.proofs.Changed.usage.Reads as Changed-usage
 use Rattle.usage.proofs.SysTrackDecision.is_apply.Reads as SysTrackDecision-is-apply
 use Rattle.usage.proofs.StartDecision.is_record_start.Reads as StartDecision-is-record-start
 use Rattle.usage.proofs.StopDecision.is_accumulate.Reads as StopDecision-is-accumulate
-use Rattle.counter.proofs.ValueRead.number.Reads as ValueRead-number
-use Rattle.counter.proofs.ValueRead.value.Reads as ValueRead-value
 use Rattle.tickclock.proofs.thread.usage_enable_number.Reads as usage-enable-number
 use Rattle.tickclock.proofs.thread.usage_enable_track_usage.Reads as usage-enable-track-usage
 use Rattle.tickclock.proofs.thread.usage_enable_total_cycles.Reads as usage-enable-total-cycles
@@ -94,15 +74,22 @@ use Rattle.tickclock.proofs.timer.systick_announce_decide_new_cycle_count.Reads 
 use Rattle.tickclock.proofs.timer.systick_announce_decide_new_announced_cycles.Reads as systick-announce-decide-new-announced-cycles
 use Rattle.tickclock.proofs.timer.counter_value_number.Reads as counter-value-number
 use Rattle.tickclock.proofs.timer.counter_value_value.Reads as counter-value-value
+use Rattle.error.specs.declared.Refusal.{Refusal}
+use Rattle.error.specs.Said.{number_in}
 use Rattle.demands.specs.Contract.{Allowed, Every, Gives, Gives1, Gives2, Gives3}
 
 -- of the arguments made into the leaf's, whatever the leaf answers and a reader reads off it, made plain
 pub record Exports {Plain Args Answer Read Out Lives Lives' Lives'' Exit Exit' Exit'' : Type 0} (made : Plain → Args) (Leaf : Lives → Args → Answer → Exit → Type 0) (Reader : Lives' → Answer × Unit {0} → Read → Exit' → Type 0) (plain : Read → Out) (Export : Lives'' → Plain → Out → Exit'' → Type 0) : Type 0 where
   pub gives : (given : Plain) (answer : Answer) (read : Read) → Allowed Leaf (made given) answer → Allowed Reader (answer, tt) read → Every Export given (λ r. r ≡ plain read)
 
--- the same of a leaf that answers a value
+-- the same of what a leaf answers, read and made plain at once
 pub record ExportsValue {Plain Args Answer Out Lives Lives' Exit Exit' : Type 0} (made : Plain → Args) (Leaf : Lives → Args → Answer → Exit → Type 0) (plain : Answer → Out) (Export : Lives' → Plain → Out → Exit' → Type 0) : Type 0 where
   pub gives : (given : Plain) (answer : Answer) → Allowed Leaf (made given) answer → Every Export given (λ r. r ≡ plain answer)
+
+-- a part of an answer's value as a plain number, and 0 where it is refused
+abbrev pub part_or_zero : {Value : Type 0} → (Value → ℕ) → Result Value Refusal → ℕ
+part_or_zero part (Ok v) = part v
+part_or_zero part (Err why) = 0
 
 -- plain numbers as the leaves' arguments
 abbrev pub cycles_then : {More : Type 0} → ℕ × More → Cycles × More
@@ -124,36 +111,36 @@ abbrev pub announced_from : ℕ × (ℕ × (ℕ × (ℕ × Unit {0}))) → Cycle
 announced_from given = (record { 0 = given.0 }, cycles_then given.1)
 
 pub record ExportsRead : Type 0 where
-  pub elapsed_cycles_lem : Exports (λ a. a) leaf-elapsed-cycles.Post ElapsedCycles-number.Post (λ n. n) systick-elapsed-cycles-number.Post × Exports (λ a. a) leaf-elapsed-cycles.Post ElapsedCycles-cycles.Post (λ c. c) systick-elapsed-cycles-cycles.Post
-  pub cycles_to_ticks_lem : Exports cycles_then leaf-cycles-to-ticks.Post CyclesToTicks-number.Post (λ n. n) systick-cycles-to-ticks-number.Post × Exports cycles_then leaf-cycles-to-ticks.Post CyclesToTicks-ticks.Post (λ t. t.0) systick-cycles-to-ticks-ticks.Post
-  pub ticks_to_cycles_lem : Exports ticks_then leaf-ticks-to-cycles.Post TicksToCycles-number.Post (λ n. n) systick-ticks-to-cycles-number.Post × Exports ticks_then leaf-ticks-to-cycles.Post TicksToCycles-cycles.Post (λ c. c.0) systick-ticks-to-cycles-cycles.Post
-  pub max_ticks_lem : Exports (λ a. a) leaf-max-ticks.Post MaxTicks-number.Post (λ n. n) systick-max-ticks-number.Post × Exports (λ a. a) leaf-max-ticks.Post MaxTicks-ticks.Post (λ t. t.0) systick-max-ticks-ticks.Post
+  pub elapsed_cycles_lem : ExportsValue (λ a. a) leaf-elapsed-cycles.Post number_in systick-elapsed-cycles-number.Post × ExportsValue (λ a. a) leaf-elapsed-cycles.Post (part_or_zero (λ c. c)) systick-elapsed-cycles-cycles.Post
+  pub cycles_to_ticks_lem : ExportsValue cycles_then leaf-cycles-to-ticks.Post number_in systick-cycles-to-ticks-number.Post × ExportsValue cycles_then leaf-cycles-to-ticks.Post (part_or_zero (λ t. t.0)) systick-cycles-to-ticks-ticks.Post
+  pub ticks_to_cycles_lem : ExportsValue ticks_then leaf-ticks-to-cycles.Post number_in systick-ticks-to-cycles-number.Post × ExportsValue ticks_then leaf-ticks-to-cycles.Post (part_or_zero (λ c. c.0)) systick-ticks-to-cycles-cycles.Post
+  pub max_ticks_lem : ExportsValue (λ a. a) leaf-max-ticks.Post number_in systick-max-ticks-number.Post × ExportsValue (λ a. a) leaf-max-ticks.Post (part_or_zero (λ t. t.0)) systick-max-ticks-ticks.Post
   pub elapsed_decide_lem :
-      Exports decided_from leaf-elapsed-decide.Post ElapsedDecide-number.Post (λ n. n) systick-elapsed-decide-number.Post ×
-      Exports decided_from leaf-elapsed-decide.Post ElapsedDecide-wrap-detected.Post flag_of systick-elapsed-decide-wrap-detected.Post ×
-      Exports decided_from leaf-elapsed-decide.Post ElapsedDecide-new-overflow-cyc.Post (λ c. c) systick-elapsed-decide-new-overflow-cyc.Post ×
-      Exports decided_from leaf-elapsed-decide.Post ElapsedDecide-elapsed.Post (λ c. c) systick-elapsed-decide-elapsed.Post
+      ExportsValue decided_from leaf-elapsed-decide.Post number_in systick-elapsed-decide-number.Post ×
+      ExportsValue decided_from leaf-elapsed-decide.Post (part_or_zero (λ v. flag_of v.wrap_detected)) systick-elapsed-decide-wrap-detected.Post ×
+      ExportsValue decided_from leaf-elapsed-decide.Post (part_or_zero (λ v. v.new_overflow_cyc)) systick-elapsed-decide-new-overflow-cyc.Post ×
+      ExportsValue decided_from leaf-elapsed-decide.Post (part_or_zero (λ v. v.elapsed)) systick-elapsed-decide-elapsed.Post
   pub announce_decide_lem :
-      Exports announced_from leaf-announce-decide.Post AnnounceDecide-number.Post (λ n. n) systick-announce-decide-number.Post ×
-      Exports announced_from leaf-announce-decide.Post AnnounceDecide-dticks.Post (λ t. t.0) systick-announce-decide-dticks.Post ×
-      Exports announced_from leaf-announce-decide.Post AnnounceDecide-new-cycle-count.Post (λ c. c.0) systick-announce-decide-new-cycle-count.Post ×
-      Exports announced_from leaf-announce-decide.Post AnnounceDecide-new-announced-cycles.Post (λ c. c.0) systick-announce-decide-new-announced-cycles.Post
-  pub value : Exports (λ a. a) leaf-value-of.Post ValueRead-number.Post (λ n. n) counter-value-number.Post × Exports (λ a. a) leaf-value-of.Post ValueRead-value.Post (λ v. v) counter-value-value.Post
+      ExportsValue announced_from leaf-announce-decide.Post number_in systick-announce-decide-number.Post ×
+      ExportsValue announced_from leaf-announce-decide.Post (part_or_zero (λ v. v.dticks.0)) systick-announce-decide-dticks.Post ×
+      ExportsValue announced_from leaf-announce-decide.Post (part_or_zero (λ v. v.new_cycle_count.0)) systick-announce-decide-new-cycle-count.Post ×
+      ExportsValue announced_from leaf-announce-decide.Post (part_or_zero (λ v. v.new_announced_cycles.0)) systick-announce-decide-new-announced-cycles.Post
+  pub value : ExportsValue (λ a. a) leaf-value-of.Post number_in counter-value-number.Post × ExportsValue (λ a. a) leaf-value-of.Post (part_or_zero (λ v. v)) counter-value-value.Post
   pub enable :
-      Exports usage_then leaf-enabled.Post Changed-number.Post (λ n. n) usage-enable-number.Post ×
-      Exports usage_then leaf-enabled.Post Changed-usage.Post (λ u. flag_of u.track_usage) usage-enable-track-usage.Post ×
-      Exports usage_then leaf-enabled.Post Changed-usage.Post (λ u. u.total_cycles.0) usage-enable-total-cycles.Post ×
-      Exports usage_then leaf-enabled.Post Changed-usage.Post (λ u. u.num_windows) usage-enable-num-windows.Post
+      ExportsValue usage_then leaf-enabled.Post number_in usage-enable-number.Post ×
+      ExportsValue usage_then leaf-enabled.Post (part_or_zero (λ u. flag_of u.track_usage)) usage-enable-track-usage.Post ×
+      ExportsValue usage_then leaf-enabled.Post (part_or_zero (λ u. u.total_cycles.0)) usage-enable-total-cycles.Post ×
+      ExportsValue usage_then leaf-enabled.Post (part_or_zero (λ u. u.num_windows)) usage-enable-num-windows.Post
   pub disable :
-      Exports usage_then leaf-disabled.Post Changed-number.Post (λ n. n) usage-disable-number.Post ×
-      Exports usage_then leaf-disabled.Post Changed-usage.Post (λ u. flag_of u.track_usage) usage-disable-track-usage.Post ×
-      Exports usage_then leaf-disabled.Post Changed-usage.Post (λ u. u.total_cycles.0) usage-disable-total-cycles.Post ×
-      Exports usage_then leaf-disabled.Post Changed-usage.Post (λ u. u.num_windows) usage-disable-num-windows.Post
+      ExportsValue usage_then leaf-disabled.Post number_in usage-disable-number.Post ×
+      ExportsValue usage_then leaf-disabled.Post (part_or_zero (λ u. flag_of u.track_usage)) usage-disable-track-usage.Post ×
+      ExportsValue usage_then leaf-disabled.Post (part_or_zero (λ u. u.total_cycles.0)) usage-disable-total-cycles.Post ×
+      ExportsValue usage_then leaf-disabled.Post (part_or_zero (λ u. u.num_windows)) usage-disable-num-windows.Post
   pub accumulate :
-      Exports usage_then leaf-accumulated.Post Changed-number.Post (λ n. n) usage-accumulate-number.Post ×
-      Exports usage_then leaf-accumulated.Post Changed-usage.Post (λ u. flag_of u.track_usage) usage-accumulate-track-usage.Post ×
-      Exports usage_then leaf-accumulated.Post Changed-usage.Post (λ u. u.total_cycles.0) usage-accumulate-total-cycles.Post ×
-      Exports usage_then leaf-accumulated.Post Changed-usage.Post (λ u. u.num_windows) usage-accumulate-num-windows.Post
+      ExportsValue usage_then leaf-accumulated.Post number_in usage-accumulate-number.Post ×
+      ExportsValue usage_then leaf-accumulated.Post (part_or_zero (λ u. flag_of u.track_usage)) usage-accumulate-track-usage.Post ×
+      ExportsValue usage_then leaf-accumulated.Post (part_or_zero (λ u. u.total_cycles.0)) usage-accumulate-total-cycles.Post ×
+      ExportsValue usage_then leaf-accumulated.Post (part_or_zero (λ u. u.num_windows)) usage-accumulate-num-windows.Post
   pub sys_enable_decide_lem : Exports flag_then leaf-sys-enable-decide.Post SysTrackDecision-is-apply.Post flag_of usage-sys-enable-decide-apply.Post
   pub sys_disable_decide_lem : Exports flag_then leaf-sys-disable-decide.Post SysTrackDecision-is-apply.Post flag_of usage-sys-disable-decide-apply.Post
   pub start_decide_lem : Exports flag_then leaf-start-decide.Post StartDecision-is-record-start.Post flag_of usage-start-decide-record-start.Post

@@ -1,15 +1,9 @@
 -- Believed: 01's leaf formulas, written out. A leaf that can refuse does so exactly when 01 says, and else gives the formula; ticks made into cycles come back.
-use Rattle.std.specs.Prelude.{ℕ, ◌+◌, ◌-◌, ◌*◌, ◌/◌, ◌%◌, ◌^◌, ◌≤◌, ◌<◌, ◌≡◌, Bool, true, false, cond, [], ◌∷◌, ◌⊎◌, ltb, leb, eqb}
+use Rattle.std.specs.Prelude.{ℕ, ◌+◌, ◌-◌, ◌*◌, ◌/◌, ◌%◌, ◌^◌, ◌≤◌, ◌<◌, ◌≡◌, Bool, true, false, cond, [], ◌∷◌, ◌⊎◌, ltb, leb, eqb, Ok, Err}
 use Rattle.error.specs.declared.Refusal.TheVariants.{Invalid, Overflow}
 use Rattle.error.specs.Numbers.{max32, max64}
 use Rattle.units.specs.declared.Cycles.{Cycles}
 use Rattle.units.specs.declared.Ticks.{Ticks}
-use Rattle.systick.specs.declared.ElapsedCycles.TheVariants as E
-use Rattle.systick.specs.declared.CyclesToTicks.TheVariants as T
-use Rattle.systick.specs.declared.TicksToCycles.TheVariants as C
-use Rattle.systick.specs.declared.MaxTicks.TheVariants as M
-use Rattle.systick.specs.declared.ElapsedDecide.TheVariants as D
-use Rattle.systick.specs.declared.AnnounceDecide.TheVariants as A
 use Rattle.systick.specs.Decisions.{elapsed_value, announce_value, announce_tests}
 use Rattle.systick.proofs.elapsed_cycles.Reads as systick-elapsed-cycles
 use Rattle.systick.proofs.cycles_to_ticks.Reads as systick-cycles-to-ticks
@@ -17,7 +11,6 @@ use Rattle.systick.proofs.ticks_to_cycles.Reads as systick-ticks-to-cycles
 use Rattle.systick.proofs.max_ticks.Reads as systick-max-ticks
 use Rattle.systick.proofs.elapsed_decide.Reads as systick-elapsed-decide
 use Rattle.systick.proofs.announce_decide.Reads as systick-announce-decide
-use Rattle.usage.specs.declared.Changed.TheVariants as R
 use Rattle.usage.specs.declared.ThreadUsage.{ThreadUsage}
 use Rattle.usage.specs.declared.SysTrackDecision.TheVariants.{NoOp, Apply}
 use Rattle.usage.specs.declared.StartDecision.TheVariants.{RecordStart, RecordOnly}
@@ -40,31 +33,31 @@ use Rattle.demands.specs.Exact.{Exact, ByRows}
 pub record LeavesExact : Type 0 where
   pub elapsed_cycles_lem :
       (last current load : ℕ) →
-      Every systick-elapsed-cycles.Post (last, (current, (load, tt))) (λ r. Exact E.Accepted E.Refused r ((last ≤ load) × (current ≤ load)) (cond (leb current last) (last - current) (last + load - current)) ((load < last) ⊎ (load < current)) ⊥)
-  pub cycles_to_ticks_lem : (cycles : Cycles) (tick : ℕ) → Every systick-cycles-to-ticks.Post (cycles, (tick, tt)) (λ r. Exact T.Accepted T.Refused r (0 < tick) (record { 0 = cycles.0 / tick }) (tick ≡ 0) ⊥)
-  pub ticks_to_cycles_lem : (ticks : Ticks) (tick : ℕ) → Every systick-ticks-to-cycles.Post (ticks, (tick, tt)) (λ r. Exact C.Accepted C.Refused r (ticks.0 * tick ≤ max64) (record { 0 = ticks.0 * tick }) ⊥ (max64 < ticks.0 * tick))
-  pub max_ticks_lem : (tick : ℕ) → Every systick-max-ticks.Post (tick, tt) (λ r. Exact M.Accepted M.Refused r (0 < tick) (record { 0 = cond (eqb (16777215 / tick) 0) 0 (16777215 / tick - 1) }) (tick ≡ 0) ⊥)
+      Every systick-elapsed-cycles.Post (last, (current, (load, tt))) (λ r. Exact Ok Err r ((last ≤ load) × (current ≤ load)) (cond (leb current last) (last - current) (last + load - current)) ((load < last) ⊎ (load < current)) ⊥)
+  pub cycles_to_ticks_lem : (cycles : Cycles) (tick : ℕ) → Every systick-cycles-to-ticks.Post (cycles, (tick, tt)) (λ r. Exact Ok Err r (0 < tick) (record { 0 = cycles.0 / tick }) (tick ≡ 0) ⊥)
+  pub ticks_to_cycles_lem : (ticks : Ticks) (tick : ℕ) → Every systick-ticks-to-cycles.Post (ticks, (tick, tt)) (λ r. Exact Ok Err r (ticks.0 * tick ≤ max64) (record { 0 = ticks.0 * tick }) ⊥ (max64 < ticks.0 * tick))
+  pub max_ticks_lem : (tick : ℕ) → Every systick-max-ticks.Post (tick, tt) (λ r. Exact Ok Err r (0 < tick) (record { 0 = cond (eqb (16777215 / tick) 0) 0 (16777215 / tick - 1) }) (tick ≡ 0) ⊥)
   -- In order: val2 > load, -22; load - val2 + overflow + load above 2^32 - 1, -139, wrap or not.
   pub elapsed_decide_lem :
       (val1 val2 : ℕ) (flag : Bool) (load overflow : ℕ) →
-      Every systick-elapsed-decide.Post (val1, (val2, (flag, (load, (overflow, tt))))) (λ r. ByRows D.Accepted D.Refused r ((ltb load val2, Invalid) ∷ (ltb max32 (load - val2 + overflow + load), Overflow) ∷ []) (elapsed_value val1 val2 flag load overflow))
+      Every systick-elapsed-decide.Post (val1, (val2, (flag, (load, (overflow, tt))))) (λ r. ByRows Ok Err r ((ltb load val2, Invalid) ∷ (ltb max32 (load - val2 + overflow + load), Overflow) ∷ []) (elapsed_value val1 val2 flag load overflow))
   pub announce_decide_lem :
       (count announced : Cycles) (overflow tick : ℕ) →
-      Every systick-announce-decide.Post (count, (announced, (overflow, (tick, tt)))) (λ r. ByRows A.Accepted A.Refused r (announce_tests count announced overflow tick) (announce_value count announced overflow tick))
+      Every systick-announce-decide.Post (count, (announced, (overflow, (tick, tt)))) (λ r. ByRows Ok Err r (announce_tests count announced overflow tick) (announce_value count announced overflow tick))
   pub enable :
       (u : ThreadUsage) →
       Every usage-enabled.Post (u, tt) (λ r.
-      Exact R.Accepted R.Refused r
+      Exact Ok Err r
       ((u.track_usage ≡ true) ⊎ ((u.track_usage ≡ false) × (u.num_windows ≡ max32 → ⊥))) (cond u.track_usage u (record { track_usage = true; total_cycles = u.total_cycles; num_windows = u.num_windows + 1 }))
       ⊥ ((u.track_usage ≡ false) × (u.num_windows ≡ max32)))
   pub accumulate :
       (u : ThreadUsage) (cycles : ℕ) →
       Every usage-accumulated.Post (u, (cycles, tt)) (λ r.
-      Exact R.Accepted R.Refused r
+      Exact Ok Err r
       (u.total_cycles.0 + cycles ≤ max64) (record { track_usage = u.track_usage; total_cycles = record { 0 = u.total_cycles.0 + cycles }; num_windows = u.num_windows })
       ⊥ (max64 < u.total_cycles.0 + cycles))
   -- never refused: disable, a fresh record, its flag, the average, the difference of two stamps, and the four decisions
-  pub disable : Gives1 usage-disabled.Post (λ u. R.Accepted (record { track_usage = false; total_cycles = u.total_cycles; num_windows = u.num_windows }))
+  pub disable : Gives1 usage-disabled.Post (λ u. Ok (record { track_usage = false; total_cycles = u.total_cycles; num_windows = u.num_windows }))
   pub new_idle_lem : Gives usage-new-idle.Post new_idle
   pub is_tracked_lem : Gives1 usage-is-tracked.Post (λ u. u.track_usage)
   pub average : Gives2 usage-average-cycles.Post average_cycles
@@ -79,4 +72,4 @@ pub record LeavesExact : Type 0 where
   pub round_trip :
       (ticks : Ticks) (tick : ℕ) (cycles : Cycles) →
       0 < tick →
-      Every systick-ticks-to-cycles.Post (ticks, (tick, tt)) (λ there. there ≡ C.Accepted cycles → Every systick-cycles-to-ticks.Post (cycles, (tick, tt)) (λ back. back ≡ T.Accepted ticks))
+      Every systick-ticks-to-cycles.Post (ticks, (tick, tt)) (λ there. there ≡ Ok cycles → Every systick-cycles-to-ticks.Post (cycles, (tick, tt)) (λ back. back ≡ Ok ticks))

@@ -1,147 +1,82 @@
--- Believed: what is read off an answer. Its number, each part of its value, zeros where it is refused, and its reason.
-use Rattle.std.specs.Prelude.{◌≡◌, true, false, ℤ}
+-- Believed: what is read off an answer. Its number, each part of its value, zeros where it is refused; and a decision as yes or no.
+use Rattle.std.specs.Prelude.{◌≡◌, true, false, Result, Ok, Err}
+use denote.RattleType.{RattleType}
+use denote.Param.Laws.{Laws}
+use mir.Syntax.{Dict}
 use Rattle.error.specs.declared.Refusal.{Refusal}
-use Rattle.error.specs.declared.Refusal.TheVariants.{Invalid}
 use Rattle.error.specs.Numbers.{ok, number_of}
+use Rattle.error.specs.Said.{Said, number_in}
 use Rattle.error.proofs.Refusal.number.Reads as error-Refusal-number
-use Rattle.systick.specs.declared.ElapsedCycles.TheVariants as E
-use Rattle.systick.specs.declared.CyclesToTicks.TheVariants as T
-use Rattle.systick.specs.declared.TicksToCycles.TheVariants as C
-use Rattle.systick.specs.declared.MaxTicks.TheVariants as M
-use Rattle.systick.specs.declared.ElapsedDecide.TheVariants as D
-use Rattle.systick.specs.declared.AnnounceDecide.TheVariants as N
-use Rattle.systick.proofs.ElapsedCycles.number.Reads as ElapsedCycles-number
-use Rattle.systick.proofs.ElapsedCycles.cycles.Reads as ElapsedCycles-cycles
-use Rattle.systick.proofs.CyclesToTicks.number.Reads as CyclesToTicks-number
-use Rattle.systick.proofs.CyclesToTicks.ticks.Reads as CyclesToTicks-ticks
-use Rattle.systick.proofs.TicksToCycles.number.Reads as TicksToCycles-number
-use Rattle.systick.proofs.TicksToCycles.cycles.Reads as TicksToCycles-cycles
-use Rattle.systick.proofs.MaxTicks.number.Reads as MaxTicks-number
-use Rattle.systick.proofs.MaxTicks.ticks.Reads as MaxTicks-ticks
-use Rattle.systick.proofs.ElapsedDecide.number.Reads as ElapsedDecide-number
-use Rattle.systick.proofs.ElapsedDecide.wrap_detected.Reads as ElapsedDecide-wrap-detected
-use Rattle.systick.proofs.ElapsedDecide.new_overflow_cyc.Reads as ElapsedDecide-new-overflow-cyc
-use Rattle.systick.proofs.ElapsedDecide.elapsed.Reads as ElapsedDecide-elapsed
-use Rattle.systick.proofs.ElapsedDecide.refusal.Reads as ElapsedDecide-refusal
-use Rattle.systick.proofs.AnnounceDecide.number.Reads as AnnounceDecide-number
-use Rattle.systick.proofs.AnnounceDecide.dticks.Reads as AnnounceDecide-dticks
-use Rattle.systick.proofs.AnnounceDecide.new_cycle_count.Reads as AnnounceDecide-new-cycle-count
-use Rattle.systick.proofs.AnnounceDecide.new_announced_cycles.Reads as AnnounceDecide-new-announced-cycles
-use Rattle.systick.proofs.AnnounceDecide.refusal.Reads as AnnounceDecide-refusal
-use Rattle.usage.specs.declared.Changed.TheVariants as X
+use Rattle.error.proofs.number.Reads as error-number
+use Rattle.systick.specs.Says.{elapsed_cycles_says, cycles_to_ticks_says, ticks_to_cycles_says, max_ticks_says, elapsed_decide_says, announce_decide_says}
 use Rattle.usage.specs.declared.SysTrackDecision.TheVariants.{NoOp, Apply}
 use Rattle.usage.specs.declared.StartDecision.TheVariants.{RecordStart, RecordOnly}
 use Rattle.usage.specs.declared.StopDecision.TheVariants.{Accumulate, Skip}
 use Rattle.usage.specs.Formulas.{new_idle}
-use Rattle.usage.proofs.Changed.number.Reads as Changed-number
-use Rattle.usage.proofs.Changed.usage.Reads as Changed-usage
-use Rattle.usage.proofs.Changed.refusal.Reads as Changed-refusal
+use Rattle.usage.specs.Says.{changed_says}
 use Rattle.usage.proofs.SysTrackDecision.is_apply.Reads as SysTrackDecision-is-apply
 use Rattle.usage.proofs.StartDecision.is_record_start.Reads as StartDecision-is-record-start
 use Rattle.usage.proofs.StopDecision.is_accumulate.Reads as StopDecision-is-accumulate
-use Rattle.counter.specs.declared.Ran.TheVariants as R
-use Rattle.counter.specs.declared.SampleRead.TheVariants as Sample
-use Rattle.counter.specs.declared.ValueRead.TheVariants as Read
 use Rattle.counter.specs.Cycle.{fresh_counter}
-use Rattle.counter.proofs.Ran.number.Reads as Ran-number
-use Rattle.counter.proofs.Ran.counter.Reads as Ran-counter
-use Rattle.counter.proofs.Ran.refusal.Reads as Ran-refusal
-use Rattle.counter.proofs.SampleRead.number.Reads as SampleRead-number
-use Rattle.counter.proofs.SampleRead.refusal.Reads as SampleRead-refusal
-use Rattle.counter.proofs.ValueRead.number.Reads as ValueRead-number
-use Rattle.counter.proofs.ValueRead.value.Reads as ValueRead-value
-use Rattle.clock.specs.declared.SetUp.TheVariants as U
-use Rattle.clock.specs.declared.Sampled.TheVariants as S
-use Rattle.clock.specs.declared.Announced.TheVariants as A
-use Rattle.clock.proofs.SetUp.number.Reads as SetUp-number
-use Rattle.clock.proofs.SetUp.refusal.Reads as SetUp-refusal
-use Rattle.clock.proofs.Sampled.number.Reads as Sampled-number
-use Rattle.clock.proofs.Sampled.refusal.Reads as Sampled-refusal
-use Rattle.clock.proofs.Sampled.elapsed.Reads as Sampled-elapsed
-use Rattle.clock.proofs.Sampled.wrap.Reads as Sampled-wrap
-use Rattle.clock.proofs.Sampled.reading.Reads as Sampled-reading
-use Rattle.clock.proofs.Announced.number.Reads as Announced-number
-use Rattle.clock.proofs.Announced.refusal.Reads as Announced-refusal
-use Rattle.clock.proofs.Announced.dticks.Reads as Announced-dticks
-use Rattle.books.specs.declared.Entered.TheVariants as B
-use Rattle.books.proofs.Entered.number.Reads as Entered-number
-use Rattle.books.proofs.Entered.refusal.Reads as Entered-refusal
-use Rattle.ledger.specs.declared.Answer.TheVariants as L
-use Rattle.ledger.specs.declared.Reported.TheVariants as P
-use Rattle.ledger.proofs.Answer.number.Reads as Answer-number
-use Rattle.ledger.proofs.Answer.cycles.Reads as Answer-cycles
-use Rattle.ledger.proofs.Reported.number.Reads as Reported-number
-use Rattle.ledger.proofs.Reported.total.Reads as Reported-total
-use Rattle.ledger.proofs.Reported.average.Reads as Reported-average
-use Rattle.trace.specs.declared.Decoded.TheVariants as Y
-use Rattle.trace.proofs.Decoded.number.Reads as Decoded-number
-use Rattle.table.specs.declared.Outcome.TheVariants as O
+use Rattle.counter.specs.Says.{ran_says, sample_read_says, value_says}
+use Rattle.clock.specs.Says.{set_up_says, sampled_says, announced_says}
+use Rattle.books.specs.Says.{entered_says}
+use Rattle.ledger.specs.Records.{answer_says}
+use Rattle.ledger.specs.Says.{reported_says}
+use Rattle.trace.specs.Decode.{decoded_says}
 use Rattle.table.specs.Table.{refusal_of}
+use Rattle.table.specs.Says.{outcome_says}
 use Rattle.table.proofs.Reason.refusal.Reads as Reason-refusal
-use Rattle.table.proofs.Outcome.number.Reads as Outcome-number
-use Rattle.table.proofs.Outcome.x.Reads as Outcome-x
-use Rattle.table.proofs.Outcome.y.Reads as Outcome-y
-use Rattle.lines.specs.declared.Written.TheVariants as W
-use Rattle.lines.proofs.Written.number.Reads as Written-number
-use Rattle.lines.proofs.Written.end.Reads as Written-end
+use Rattle.lines.specs.Says.{written_says}
 use Rattle.demands.specs.Contract.{Every, Gives1}
 
-module _ {Answer Value Reason : Type 0} (accept : Value → Answer) (refuse : Reason → Answer) where
-  -- what a reader makes of an accepted answer's value, and of a refused one's reason
-  abbrev pub Reads : {Lives Read Exit : Type 0} → (Lives → Answer × Unit {0} → Read → Exit → Type 0) → (Value → Read) → (Reason → Read) → Type 0
-  Reads Allows of_value of-reason = ((v : Value) → Every Allows (accept v, tt) (λ r. r ≡ of_value v)) × ((why : Reason) → Every Allows (refuse why, tt) (λ r. r ≡ of-reason why))
-
+module _ {Value Reason : Type 0} (says : Result Value Reason → Said Value) where
   -- a part of the value, and zero where it is refused
-  abbrev pub ReadsPart : {Lives Read Exit : Type 0} → (Lives → Answer × Unit {0} → Read → Exit → Type 0) → (Value → Read) → Read → Type 0
-  ReadsPart Allows part zero = Reads Allows part (λ why. zero)
+  abbrev pub ReadsPart : {Read : Type 0} → (Value → Read) → Read → Type 0
+  ReadsPart part zero = ((v : Value) → part (says (Ok v)).value ≡ part v) × ((why : Reason) → part (says (Err why)).value ≡ zero)
 
-module _ {Answer Value : Type 0} (accept : Value → Answer) (refuse : Refusal → Answer) where
+module _ {Value : Type 0} (says : Result Value Refusal → Said Value) where
   -- 0, or the reason's number
-  abbrev pub ReadsNumber : {Lives Exit : Type 0} → (Lives → Answer × Unit {0} → ℤ → Exit → Type 0) → Type 0
-  ReadsNumber Allows = Reads accept refuse Allows (λ v. ok) number_of
+  abbrev pub ReadsNumber : Type 0
+  ReadsNumber = ((v : Value) → (says (Ok v)).number ≡ ok) × ((why : Refusal) → (says (Err why)).number ≡ number_of why)
 
-  -- the reason; of an accepted answer nobody asks, and Invalid stands in
-  abbrev pub ReadsReason : {Lives Exit : Type 0} → (Lives → Answer × Unit {0} → Refusal → Exit → Type 0) → Type 0
-  ReadsReason Allows = Reads accept refuse Allows (λ v. Invalid) (λ why. why)
-
-pub record Readers : Type 0 where
+pub record Readers : Type 2 where
   pub refusal : Gives1 error-Refusal-number.Post number_of
-  pub elapsed_cycles_lem : ReadsNumber E.Accepted E.Refused ElapsedCycles-number.Post × ReadsPart E.Accepted E.Refused ElapsedCycles-cycles.Post (λ cycles. cycles) 0
-  pub cycles_to_ticks_lem : ReadsNumber T.Accepted T.Refused CyclesToTicks-number.Post × ReadsPart T.Accepted T.Refused CyclesToTicks-ticks.Post (λ ticks. ticks) (record { 0 = 0 })
-  pub ticks_to_cycles_lem : ReadsNumber C.Accepted C.Refused TicksToCycles-number.Post × ReadsPart C.Accepted C.Refused TicksToCycles-cycles.Post (λ cycles. cycles) (record { 0 = 0 })
-  pub max_ticks_lem : ReadsNumber M.Accepted M.Refused MaxTicks-number.Post × ReadsPart M.Accepted M.Refused MaxTicks-ticks.Post (λ ticks. ticks) (record { 0 = 0 })
+  -- one function gives the number of every answer, whatever its value is
+  pub number : (T : RattleType) (laws : Laws T) (dict : Dict) (answer : Result T.Denot Refusal) → Every (error-number.Post T laws dict) (answer, tt) (λ n. n ≡ number_in answer)
+  pub elapsed_cycles_lem : ReadsNumber elapsed_cycles_says × ReadsPart elapsed_cycles_says (λ cycles. cycles) 0
+  pub cycles_to_ticks_lem : ReadsNumber cycles_to_ticks_says × ReadsPart cycles_to_ticks_says (λ ticks. ticks) (record { 0 = 0 })
+  pub ticks_to_cycles_lem : ReadsNumber ticks_to_cycles_says × ReadsPart ticks_to_cycles_says (λ cycles. cycles) (record { 0 = 0 })
+  pub max_ticks_lem : ReadsNumber max_ticks_says × ReadsPart max_ticks_says (λ ticks. ticks) (record { 0 = 0 })
   pub elapsed_decide_lem :
-      ReadsNumber D.Accepted D.Refused ElapsedDecide-number.Post ×
-      ReadsReason D.Accepted D.Refused ElapsedDecide-refusal.Post ×
-      ReadsPart D.Accepted D.Refused ElapsedDecide-wrap-detected.Post (λ v. v.wrap_detected) false ×
-      ReadsPart D.Accepted D.Refused ElapsedDecide-new-overflow-cyc.Post (λ v. v.new_overflow_cyc) 0 ×
-      ReadsPart D.Accepted D.Refused ElapsedDecide-elapsed.Post (λ v. v.elapsed) 0
+      ReadsNumber elapsed_decide_says ×
+      ReadsPart elapsed_decide_says (λ v. v.wrap_detected) false ×
+      ReadsPart elapsed_decide_says (λ v. v.new_overflow_cyc) 0 ×
+      ReadsPart elapsed_decide_says (λ v. v.elapsed) 0
   pub announce_decide_lem :
-      ReadsNumber N.Accepted N.Refused AnnounceDecide-number.Post ×
-      ReadsReason N.Accepted N.Refused AnnounceDecide-refusal.Post ×
-      ReadsPart N.Accepted N.Refused AnnounceDecide-dticks.Post (λ v. v.dticks) (record { 0 = 0 }) ×
-      ReadsPart N.Accepted N.Refused AnnounceDecide-new-cycle-count.Post (λ v. v.new_cycle_count) (record { 0 = 0 }) ×
-      ReadsPart N.Accepted N.Refused AnnounceDecide-new-announced-cycles.Post (λ v. v.new_announced_cycles) (record { 0 = 0 })
-  pub changed : ReadsNumber X.Accepted X.Refused Changed-number.Post × ReadsReason X.Accepted X.Refused Changed-refusal.Post × ReadsPart X.Accepted X.Refused Changed-usage.Post (λ u. u) new_idle
-  pub ran : ReadsNumber R.Accepted R.Refused Ran-number.Post × ReadsReason R.Accepted R.Refused Ran-refusal.Post × ReadsPart R.Accepted R.Refused Ran-counter.Post (λ c. c) (fresh_counter 0)
-  pub sample_read : ReadsNumber Sample.Accepted Sample.Refused SampleRead-number.Post × ReadsReason Sample.Accepted Sample.Refused SampleRead-refusal.Post
-  pub value_read : ReadsNumber Read.Accepted Read.Refused ValueRead-number.Post × ReadsPart Read.Accepted Read.Refused ValueRead-value.Post (λ v. v) 0
-  pub set_up_lem : ReadsNumber U.Accepted U.Refused SetUp-number.Post × ReadsReason U.Accepted U.Refused SetUp-refusal.Post
+      ReadsNumber announce_decide_says ×
+      ReadsPart announce_decide_says (λ v. v.dticks) (record { 0 = 0 }) ×
+      ReadsPart announce_decide_says (λ v. v.new_cycle_count) (record { 0 = 0 }) ×
+      ReadsPart announce_decide_says (λ v. v.new_announced_cycles) (record { 0 = 0 })
+  pub changed : ReadsNumber changed_says × ReadsPart changed_says (λ u. u) new_idle
+  pub ran : ReadsNumber ran_says × ReadsPart ran_says (λ c. c) (fresh_counter 0)
+  pub sample_read : ReadsNumber sample_read_says
+  pub value_read : ReadsNumber value_says × ReadsPart value_says (λ v. v) 0
+  pub set_up_lem : ReadsNumber set_up_says
   pub sampled :
-      ReadsNumber S.Accepted S.Refused Sampled-number.Post ×
-      ReadsReason S.Accepted S.Refused Sampled-refusal.Post ×
-      ReadsPart S.Accepted S.Refused Sampled-elapsed.Post (λ s. s.elapsed) 0 ×
-      ReadsPart S.Accepted S.Refused Sampled-wrap.Post (λ s. s.wrap) false ×
-      ReadsPart S.Accepted S.Refused Sampled-reading.Post (λ s. s.reading) (record { 0 = 0 })
-  pub announced : ReadsNumber A.Accepted A.Refused Announced-number.Post × ReadsReason A.Accepted A.Refused Announced-refusal.Post × ReadsPart A.Accepted A.Refused Announced-dticks.Post (λ a. a.dticks) (record { 0 = 0 })
-  pub entered : ReadsNumber B.Accepted B.Refused Entered-number.Post × ReadsReason B.Accepted B.Refused Entered-refusal.Post
-  pub operated : ReadsNumber L.Accepted L.Refused Answer-number.Post × ReadsPart L.Accepted L.Refused Answer-cycles.Post (λ cycles. cycles) 0
-  pub reported : ReadsNumber P.Accepted P.Refused Reported-number.Post × ReadsPart P.Accepted P.Refused Reported-total.Post (λ r. r.total) (record { 0 = 0 }) × ReadsPart P.Accepted P.Refused Reported-average.Post (λ r. r.average) (record { 0 = 0 })
-  pub decoded : ReadsNumber Y.Accepted Y.Refused Decoded-number.Post
-  pub written : ReadsNumber W.Accepted W.Refused Written-number.Post × ReadsPart W.Accepted W.Refused Written-end.Post (λ end. end) 0
+      ReadsNumber sampled_says ×
+      ReadsPart sampled_says (λ s. s.elapsed) 0 ×
+      ReadsPart sampled_says (λ s. s.wrap) false ×
+      ReadsPart sampled_says (λ s. s.reading) (record { 0 = 0 })
+  pub announced : ReadsNumber announced_says × ReadsPart announced_says (λ a. a.dticks) (record { 0 = 0 })
+  pub entered : ReadsNumber entered_says
+  pub operated : ReadsNumber answer_says × ReadsPart answer_says (λ cycles. cycles) 0
+  pub reported : ReadsNumber reported_says × ReadsPart reported_says (λ r. r.total) (record { 0 = 0 }) × ReadsPart reported_says (λ r. r.average) (record { 0 = 0 })
+  pub decoded : ReadsNumber decoded_says
+  pub written : ReadsNumber written_says × ReadsPart written_says (λ end. end) 0
   -- a step's: a row's reason is `refusal_of`, and its number that reason's
   pub reason : Gives1 Reason-refusal.Post refusal_of
-  pub outcome : Reads O.Accepted O.Refused Outcome-number.Post (λ v. ok) (λ why. number_of (refusal_of why)) × ReadsPart O.Accepted O.Refused Outcome-x.Post (λ v. v.x) 0 × ReadsPart O.Accepted O.Refused Outcome-y.Post (λ v. v.y) 0
+  pub outcome : ((v : _) → (outcome_says (Ok v)).number ≡ ok) × ((why : _) → (outcome_says (Err why)).number ≡ number_of (refusal_of why)) × ReadsPart outcome_says (λ v. v.x) 0 × ReadsPart outcome_says (λ v. v.y) 0
   -- a decision as yes or no
   pub sys_track : Every SysTrackDecision-is-apply.Post (Apply, tt) (λ yes. yes ≡ true) × Every SysTrackDecision-is-apply.Post (NoOp, tt) (λ yes. yes ≡ false)
   pub start : Every StartDecision-is-record-start.Post (RecordStart, tt) (λ yes. yes ≡ true) × Every StartDecision-is-record-start.Post (RecordOnly, tt) (λ yes. yes ≡ false)

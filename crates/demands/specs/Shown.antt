@@ -1,16 +1,14 @@
 -- Evidence: traces that show what the demands are worth. Their premises are met, each of them is needed, their bounds are attained, and records answer what 01 prints.
-use Rattle.std.specs.Prelude.{ℕ, ◌+◌, ◌-◌, ◌≤◌, ◌<◌, ◌≡◌, List, [], ◌∷◌, ◌↔◌}
-use Rattle.clock.specs.declared.Gaps.{Gaps}
-use Rattle.clock.specs.Sample.{cycles_of}
+use Rattle.std.specs.Prelude.{ℕ, ◌+◌, ◌-◌, ◌≤◌, ◌<◌, ◌≡◌, List, [], ◌∷◌, ◌↔◌, Ok}
+use Rattle.counter.specs.declared.Gaps.{Gaps}
+use Rattle.counter.specs.Readings.{cycles_of}
 use Rattle.clock.specs.Entries.{gaps}
 use Rattle.ledger.specs.Records.{thread_record}
 use Rattle.ledger.specs.Sums.{true_cycles, sum_of, edge, AllShort, ChainShort}
 use Rattle.trace.specs.declared.Record.{Record}
 use Rattle.trace.specs.declared.Record.TheVariants as K
-use Rattle.trace.specs.declared.Decoded.{Decoded}
-use Rattle.trace.specs.declared.Decoded.TheVariants as D
+use Rattle.trace.specs.Decode.{Decoded}
 use Rattle.table.specs.declared.Values.{Values}
-use Rattle.table.specs.declared.Outcome.TheVariants as Told
 use Rattle.table.specs.Says.{values}
 use Rattle.machine.specs.declared.Machine.{Machine}
 use Rattle.machine.specs.Step.{step_of}
@@ -19,7 +17,7 @@ use Rattle.demands.specs.Trace.{Watched, time_c, wraps_by, FairSample, watch_all
 
 abbrev pub taken : List Record → List Decoded
 taken [] = []
-taken (r ∷ rs) = D.Accepted r ∷ taken rs
+taken (r ∷ rs) = Ok r ∷ taken rs
 
 -- 01's printed case, after its setup
 abbrev pub printed : List Decoded
@@ -62,7 +60,7 @@ abbrev pub Answers : Machine → List Decoded → List Values → Type 0
 Answers m [] [] = Unit {0}
 Answers m [] (v ∷ vs) = ⊥
 Answers m (d ∷ ds) [] = ⊥
-Answers m (d ∷ ds) (v ∷ vs) = ((step_of m d).outcome ≡ Told.Accepted v) × Answers (step_of m d).machine ds vs
+Answers m (d ∷ ds) (v ∷ vs) = ((step_of m d).outcome ≡ Ok v) × Answers (step_of m d).machine ds vs
 
 -- the last reading is so much at so many cycles
 abbrev pub ReadsAt : List Record → ℕ → ℕ → Type 0

@@ -1,19 +1,17 @@
 -- Evidence: wrong machines, each shut out by a demand. Those of 01's "What the contracts must shut out" and "Slips we have seen", and more.
-use Rattle.std.specs.Prelude.{ℕ, ◌+◌, Bool, true, false, cond, not, ◌&&◌, set, leb, eqb}
+use Rattle.std.specs.Prelude.{ℕ, ◌+◌, Bool, true, false, cond, not, ◌&&◌, set, leb, eqb, Ok, Err}
 use Rattle.counter.specs.declared.Counter.{Counter}
 use Rattle.counter.specs.Cycle.{cleared}
-use Rattle.clock.specs.declared.Gaps.{Gaps}
+use Rattle.counter.specs.declared.Gaps.{Gaps}
 use Rattle.clock.specs.Sample.{readings, decision, crowded}
 use Rattle.clock.specs.Entries.{gaps}
 use Rattle.ledger.specs.Records.{thread_record}
 use Rattle.trace.specs.declared.Record.{Record}
 use Rattle.trace.specs.declared.Record.TheVariants as K
-use Rattle.trace.specs.declared.Decoded.{Decoded}
-use Rattle.trace.specs.declared.Decoded.TheVariants as D
+use Rattle.trace.specs.Decode.{Decoded}
 use Rattle.table.specs.declared.Reason.TheVariants as Why
 use Rattle.table.specs.declared.Values.{Values}
-use Rattle.table.specs.declared.Outcome.{Outcome}
-use Rattle.table.specs.declared.Outcome.TheVariants as Told
+use Rattle.table.specs.Says.{Outcome}
 use Rattle.table.specs.Table.{after_touch}
 use Rattle.table.specs.Says.{values}
 use Rattle.machine.specs.declared.Machine.{Machine}
@@ -50,21 +48,21 @@ gaps_in (K.Setup s) = gaps 0 0 0
 
 -- machines that differ from ours by what they leave, given the machine before and ours after, or by what they answer
 abbrev leaving : (Machine → Record → Machine → Machine) → Machine → Decoded → Stepped
-leaving wrong m (D.Accepted r) = record { outcome = (step_of m (D.Accepted r)).outcome; machine = wrong m r (step_of m (D.Accepted r)).machine }
-leaving wrong m (D.Refused why) = step_of m (D.Refused why)
+leaving wrong m (Ok r) = record { outcome = (step_of m (Ok r)).outcome; machine = wrong m r (step_of m (Ok r)).machine }
+leaving wrong m (Err why) = step_of m (Err why)
 
 abbrev telling : (Values → Values) → Outcome → Outcome
-telling wrong (Told.Accepted v) = Told.Accepted (wrong v)
-telling wrong (Told.Refused why) = Told.Refused why
+telling wrong (Ok v) = Ok (wrong v)
+telling wrong (Err why) = Err why
 
 abbrev answering : (Record → Values → Values) → Machine → Decoded → Stepped
-answering wrong m (D.Accepted r) = record { outcome = telling (wrong r) (step_of m (D.Accepted r)).outcome; machine = (step_of m (D.Accepted r)).machine }
-answering wrong m (D.Refused why) = step_of m (D.Refused why)
+answering wrong m (Ok r) = record { outcome = telling (wrong r) (step_of m (Ok r)).outcome; machine = (step_of m (Ok r)).machine }
+answering wrong m (Err why) = step_of m (Err why)
 
 -- or by not announcing where a test holds
 abbrev not_announcing : (Machine → Bool) → Machine → Decoded → Stepped
-not_announcing idle m (D.Accepted r) = cond (eqb (kind r) 2 && idle m) (record { outcome = Told.Accepted (values 0 m.timer.clock.announced.0); machine = m }) (step_of m (D.Accepted r))
-not_announcing idle m (D.Refused why) = step_of m (D.Refused why)
+not_announcing idle m (Ok r) = cond (eqb (kind r) 2 && idle m) (record { outcome = Ok (values 0 m.timer.clock.announced.0); machine = m }) (step_of m (Ok r))
+not_announcing idle m (Err why) = step_of m (Err why)
 
 -- a machine with another counter, overflow and last reading, announced, books or record
 abbrev with_counter : Machine → Counter → Machine
@@ -118,7 +116,7 @@ with_thread m i total windows = record {
 
 -- 01's "What the contracts must shut out": a refuser that never accepts
 abbrev refuser : Machine → Decoded → Stepped
-refuser m d = record { outcome = Told.Refused Why.BadRecord; machine = m }
+refuser m d = record { outcome = Err Why.BadRecord; machine = m }
 
 -- a frozen clock; one whose counter starts anew at each sample and forgets the cycles it had run; one constant reading
 abbrev frozen : Machine → Decoded → Stepped
@@ -179,11 +177,11 @@ two_stamps = leaving (λ m r n. cond (eqb (kind r) 4) (with_books n (n.ledger.bo
 
 -- and more: a setup forgotten at a sum that won't fit
 abbrev refused_sum : Outcome → Bool
-refused_sum (Told.Accepted v) = false
-refused_sum (Told.Refused why) = after_touch why
+refused_sum (Ok v) = false
+refused_sum (Err why) = after_touch why
 
 abbrev forgetful : Machine → Decoded → Stepped
-forgetful = leaving (λ m r n. cond (refused_sum (step_of m (D.Accepted r)).outcome) (record { ready = false; timer = n.timer; ledger = n.ledger }) n)
+forgetful = leaving (λ m r n. cond (refused_sum (step_of m (Ok r)).outcome) (record { ready = false; timer = n.timer; ledger = n.ledger }) n)
 
 -- an elapsed of 0 answered, a total where the average is asked for, and windows that never rise
 abbrev no_elapsed : Machine → Decoded → Stepped

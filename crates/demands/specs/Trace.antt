@@ -1,17 +1,15 @@
 -- Believed: a trace's run from setup. A machine by its step, and beside it an onlooker, who has the records, their answers and 01's counter, and never looks at what the machine keeps.
-use Rattle.std.specs.Prelude.{ℕ, ◌+◌, ◌<◌, ◌≤◌, ◌≡◌, cond, List, [], ◌∷◌}
+use Rattle.std.specs.Prelude.{ℕ, ◌+◌, ◌<◌, ◌≤◌, ◌≡◌, cond, List, [], ◌∷◌, Ok, Err}
 use Rattle.counter.specs.Cycle.{fresh_counter, wraps}
-use Rattle.clock.specs.declared.Gaps.{Gaps}
-use Rattle.clock.specs.Sample.{cycles_of}
+use Rattle.counter.specs.declared.Gaps.{Gaps}
+use Rattle.counter.specs.Readings.{cycles_of}
 use Rattle.books.specs.declared.Operation.{Operation}
 use Rattle.books.specs.declared.Operation.TheVariants as O
 use Rattle.ledger.specs.Threads.{Threads, none_ran, begins, operated}
 use Rattle.trace.specs.declared.Record.{Record}
 use Rattle.trace.specs.declared.Record.TheVariants as K
-use Rattle.trace.specs.declared.Decoded.{Decoded}
-use Rattle.trace.specs.declared.Decoded.TheVariants as D
-use Rattle.table.specs.declared.Outcome.{Outcome}
-use Rattle.table.specs.declared.Outcome.TheVariants as Told
+use Rattle.trace.specs.Decode.{Decoded}
+use Rattle.table.specs.Says.{Outcome}
 use Rattle.table.specs.Table.{after_touch}
 use Rattle.machine.specs.declared.Machine.{Machine}
 use Rattle.machine.specs.declared.Stepped.{Stepped}
@@ -47,9 +45,9 @@ sample_only (samples g) = samples g
 sample_only (operates op g x) = samples g
 
 unfoldable pub happened : Decoded → Outcome → Does
-happened (D.Accepted r) (Told.Accepted values) = does_of r values.x
-happened (D.Accepted r) (Told.Refused why) = cond (after_touch why) (sample_only (does_of r 0)) nothing
-happened (D.Refused why) o = nothing
+happened (Ok r) (Ok values) = does_of r values.x
+happened (Ok r) (Err why) = cond (after_touch why) (sample_only (does_of r 0)) nothing
+happened (Err why) o = nothing
 
 pub record Watched : Type 0 where
   pub machine : Machine
@@ -117,7 +115,7 @@ module _ (step : Machine → Decoded → Stepped) where
 
   -- a fresh machine, set up
   abbrev pub at_setup : ℕ → ℕ → ℕ → Watched
-  at_setup slots period tick = watching (step (fresh_machine slots) (D.Accepted (K.Setup (record { period = period; tick = tick })))).machine
+  at_setup slots period tick = watching (step (fresh_machine slots) (Ok (K.Setup (record { period = period; tick = tick })))).machine
 
   -- each sample is fair that was not refused before the touch
   unfoldable pub FairTrace : ℕ → List Decoded → Watched → Type 0

@@ -3,7 +3,7 @@ use Rattle.std.specs.Prelude.{ℕ, ◌+◌, ◌/◌, ◌%◌, ◌^◌, ◌≤◌
 use Rattle.error.specs.Numbers.{ok, minus, max32}
 use Rattle.units.specs.declared.Cycles.{Cycles}
 use Rattle.usage.specs.declared.ThreadUsage.{ThreadUsage}
-use Rattle.usage.specs.declared.Outcome.{Outcome}
+use Rattle.usage.specs.Says.{InPlace}
 use Rattle.usage.specs.declared.SysTrackDecision.{SysTrackDecision}
 use Rattle.usage.specs.declared.SysTrackDecision.TheVariants.{NoOp, Apply}
 use Rattle.usage.specs.declared.StartDecision.TheVariants.{RecordStart, RecordOnly}
@@ -15,20 +15,20 @@ use Rattle.demands.specs.Contract.{Every}
 use Rattle.usage.specs.Says.{enable_outcome, disable_outcome, accumulate_outcome, sys_track_says}
 
 -- what enable ensures, but for an untracked record with a full count of windows
-pub record EnableEnsures (old : ThreadUsage) (after : Outcome) : Type 0 where
+pub record EnableEnsures (old : ThreadUsage) (after : InPlace) : Type 0 where
   pub code : after.code ≡ ok
   pub tracked : after.usage.track_usage ≡ true
   pub total : after.usage.total_cycles ≡ old.total_cycles
   pub opened : old.track_usage ≡ false → after.usage.num_windows ≡ old.num_windows + 1
   pub windows_kept : old.track_usage ≡ true → after.usage.num_windows ≡ old.num_windows
 
-pub record DisableEnsures (old : ThreadUsage) (after : Outcome) : Type 0 where
+pub record DisableEnsures (old : ThreadUsage) (after : InPlace) : Type 0 where
   pub code : after.code ≡ ok
   pub untracked : after.usage.track_usage ≡ false
   pub total : after.usage.total_cycles ≡ old.total_cycles
   pub windows : after.usage.num_windows ≡ old.num_windows
 
-pub record AccumulateEnsures (old : ThreadUsage) (cycles : ℕ) (after : Outcome) : Type 0 where
+pub record AccumulateEnsures (old : ThreadUsage) (cycles : ℕ) (after : InPlace) : Type 0 where
   pub code : (after.code ≡ ok) ⊎ (after.code ≡ minus 139)
   pub added : after.code ≡ ok → after.usage.total_cycles.0 ≡ old.total_cycles.0 + cycles
   pub unchanged : after.code ≡ minus 139 → after.usage ≡ old

@@ -1,15 +1,11 @@
 -- Evidence: upstream's clauses and lemmas of systick.rs, each over our definition, under upstream's own requires. They follow from the laws that `LeavesExact` rests on and from what the answers' definitions say.
-use Rattle.std.specs.Prelude.{ℕ, ◌+◌, ◌-◌, ◌*◌, ◌/◌, ◌≤◌, ◌<◌, ◌≡◌, Bool, true, false, ◌||◌, ltb}
+use Rattle.std.specs.Prelude.{ℕ, ◌+◌, ◌-◌, ◌*◌, ◌/◌, ◌≤◌, ◌<◌, ◌≡◌, Bool, true, false, ◌||◌, ltb, Ok}
 use Rattle.error.specs.Numbers.{ok, minus, max32, max64}
 use Rattle.error.specs.Said.{Said}
 use Rattle.units.specs.declared.Cycles.{Cycles}
 use Rattle.units.specs.declared.Ticks.{Ticks}
 use Rattle.systick.specs.declared.ElapsedDecideResult.{ElapsedDecideResult}
 use Rattle.systick.specs.declared.AnnounceDecideResult.{AnnounceDecideResult}
-use Rattle.systick.specs.declared.ElapsedCycles.TheVariants as E
-use Rattle.systick.specs.declared.CyclesToTicks.TheVariants as T
-use Rattle.systick.specs.declared.TicksToCycles.TheVariants as C
-use Rattle.systick.specs.declared.MaxTicks.TheVariants as M
 use Rattle.systick.specs.Leaves.{elapsed_cycles, cycles_to_ticks, ticks_to_cycles, max_ticks, max_load, elapsed_decide, announce_decide}
 use Rattle.systick.specs.Says.{elapsed_cycles_says, cycles_to_ticks_says, ticks_to_cycles_says, max_ticks_says, elapsed_decide_says, announce_decide_says}
 
@@ -59,20 +55,20 @@ pub record TimerClauses : Type 0 where
 -- upstream's lemmas by name, over the functions; where upstream states nothing, the law that the name suggests
 pub record TimerLemmas : Type 0 where
   -- ST1, ST2
-  pub lemma_elapsed_bounded : (last current load elapsed : ℕ) → elapsed_cycles last current load ≡ E.Accepted elapsed → elapsed ≤ load
+  pub lemma_elapsed_bounded : (last current load elapsed : ℕ) → elapsed_cycles last current load ≡ Ok elapsed → elapsed ≤ load
   -- ST5
-  pub lemma_roundtrip : (ticks : Ticks) (tick : ℕ) → 0 < tick → ticks.0 ≤ max64 / tick → cycles_to_ticks (ticks_to_cycles_says (ticks_to_cycles ticks tick)).value tick ≡ T.Accepted ticks
+  pub lemma_roundtrip : (ticks : Ticks) (tick : ℕ) → 0 < tick → ticks.0 ≤ max64 / tick → cycles_to_ticks (ticks_to_cycles_says (ticks_to_cycles ticks tick)).value tick ≡ Ok ticks
   -- ST6
-  pub lemma_monotonicity : (c1 c2 : Cycles) (tick : ℕ) (t1 t2 : Ticks) → c1.0 ≤ c2.0 → cycles_to_ticks c1 tick ≡ T.Accepted t1 → cycles_to_ticks c2 tick ≡ T.Accepted t2 → t1.0 ≤ t2.0
+  pub lemma_monotonicity : (c1 c2 : Cycles) (tick : ℕ) (t1 t2 : Ticks) → c1.0 ≤ c2.0 → cycles_to_ticks c1 tick ≡ Ok t1 → cycles_to_ticks c2 tick ≡ Ok t2 → t1.0 ≤ t2.0
   -- ST7: a difference of values of the register, and the ticks that it may be given, stay within the register
-  pub lemma_counter_bounded : (last current load elapsed : ℕ) → load ≤ max_load → elapsed_cycles last current load ≡ E.Accepted elapsed → elapsed ≤ max_load
-  pub max_ticks_fit : (tick : ℕ) (ticks : Ticks) → max_ticks tick ≡ M.Accepted ticks → ticks.0 * tick ≤ max_load
+  pub lemma_counter_bounded : (last current load elapsed : ℕ) → load ≤ max_load → elapsed_cycles last current load ≡ Ok elapsed → elapsed ≤ max_load
+  pub max_ticks_fit : (tick : ℕ) (ticks : Ticks) → max_ticks tick ≡ Ok ticks → ticks.0 * tick ≤ max_load
   -- ST2
-  pub lemma_wrap_symmetry : (last current load : ℕ) → last < current → current ≤ load → elapsed_cycles last current load ≡ E.Accepted (load - (current - last))
-  pub lemma_zero_elapsed : (count load : ℕ) → count ≤ load → elapsed_cycles count count load ≡ E.Accepted 0
+  pub lemma_wrap_symmetry : (last current load : ℕ) → last < current → current ≤ load → elapsed_cycles last current load ≡ Ok (load - (current - last))
+  pub lemma_zero_elapsed : (count load : ℕ) → count ≤ load → elapsed_cycles count count load ≡ Ok 0
   -- there and back loses less than a tick, and going back is never refused
-  pub lemma_conversion_truncation : (cycles : Cycles) (tick : ℕ) (ticks : Ticks) → cycles.0 ≤ max64 → cycles_to_ticks cycles tick ≡ T.Accepted ticks → (ticks_to_cycles ticks tick ≡ C.Accepted (record { 0 = ticks.0 * tick })) × (ticks.0 * tick ≤ cycles.0) × (cycles.0 < ticks.0 * tick + tick)
+  pub lemma_conversion_truncation : (cycles : Cycles) (tick : ℕ) (ticks : Ticks) → cycles.0 ≤ max64 → cycles_to_ticks cycles tick ≡ Ok ticks → (ticks_to_cycles ticks tick ≡ Ok (record { 0 = ticks.0 * tick })) × (ticks.0 * tick ≤ cycles.0) × (cycles.0 < ticks.0 * tick + tick)
   -- ST3: ticks never pass the cycles that they are made of, so nothing overflows
-  pub ticks_within : (cycles : Cycles) (tick : ℕ) (ticks : Ticks) → cycles_to_ticks cycles tick ≡ T.Accepted ticks → ticks.0 ≤ cycles.0
+  pub ticks_within : (cycles : Cycles) (tick : ℕ) (ticks : Ticks) → cycles_to_ticks cycles tick ≡ Ok ticks → ticks.0 ≤ cycles.0
   -- ST4: what is accepted fits 64 bits
-  pub cycles_fit : (ticks : Ticks) (tick : ℕ) (cycles : Cycles) → ticks_to_cycles ticks tick ≡ C.Accepted cycles → cycles.0 ≤ max64
+  pub cycles_fit : (ticks : Ticks) (tick : ℕ) (cycles : Cycles) → ticks_to_cycles ticks tick ≡ Ok cycles → cycles.0 ≤ max64

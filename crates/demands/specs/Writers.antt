@@ -1,12 +1,10 @@
 -- Believed: what is put into a lent buffer. With room enough the text stands there and the answer is the place after it; else -28, or -139 where a record's number would have more than 64 bits, and the buffer is as it was.
-use Rattle.std.specs.Prelude.{ℕ, ◌+◌, ◌*◌, ◌/◌, ◌≤◌, ◌<◌, ◌≡◌, cond, ◌||◌, List, [], ◌∷◌, ◌++◌, ℤ, pos, length, replicate, ltb, leb, eqb}
+use Rattle.std.specs.Prelude.{ℕ, ◌+◌, ◌*◌, ◌/◌, ◌≤◌, ◌<◌, ◌≡◌, cond, ◌||◌, List, [], ◌∷◌, ◌++◌, ℤ, pos, length, replicate, ltb, leb, eqb, Result, Ok, Err}
 use Rattle.std.proofs.lemmas.List.Edits.{sets}
 use Rattle.std.specs.Borrow.{Bor, MutBor}
 use Rattle.error.specs.declared.Refusal.TheVariants.{NoSpace, Overflow}
 use Rattle.error.specs.Numbers.{max64}
 use Rattle.machine.specs.declared.Machine.{Machine}
-use Rattle.lines.specs.declared.Written.{Written}
-use Rattle.lines.specs.declared.Written.TheVariants as W
 use Rattle.lines.specs.Text.{decimal, values_text, line_text, end_text, tail_text, input_text}
 use Rattle.lines.specs.Naming.{label_of}
 use Rattle.lines.proofs.put_line.Reads as lines-put-line
@@ -24,10 +22,11 @@ use Rattle.transcript.proofs.replay.Reads as transcript-replay
 use Rattle.transcript.proofs.put_part.Reads as transcript-put-part
 use Rattle.demands.specs.Terms.{thread_slots}
 use Rattle.demands.specs.Contract.{EveryLent, Every, Gives1}
+use Rattle.error.specs.declared.Refusal.{Refusal}
 
-pub record Writes (room : ℕ) (before : List ℕ) (at : ℕ) (text : List ℕ) (answer : Written) (after : List ℕ) : Type 0 where
-  pub enough : at + room ≤ length before → (answer ≡ W.Accepted (at + length text)) × (after ≡ sets before at text)
-  pub no_room : length before < at + room → (answer ≡ W.Refused NoSpace) × (after ≡ before)
+pub record Writes (room : ℕ) (before : List ℕ) (at : ℕ) (text : List ℕ) (answer : Result ℕ Refusal) (after : List ℕ) : Type 0 where
+  pub enough : at + room ≤ length before → (answer ≡ Ok (at + length text)) × (after ≡ sets before at text)
+  pub no_room : length before < at + room → (answer ≡ Err NoSpace) × (after ≡ before)
 
 -- room for the text of any trace of so many bytes; 46 is that of the longest `end` line
 abbrev pub room_of : ℕ → ℕ
@@ -52,8 +51,8 @@ pub record Writers : Type 0 where
       let kept = cond (eqb (n / 100) 0 || leb 100000000 (n / 100)) [] (sets (replicate 8 0) 0 (decimal (n / 100))) in
       let text = decimal (cond (ltb max64 n) 0 n) ++ 32 ∷ [] in
       EveryLent (λ exit. exit.0.now) lines-put-label.Post (out, (at, (label_of n, tt))) (λ answer after.
-      (at + 75 ≤ length out.now → (answer ≡ W.Accepted (at + length text)) × (after ≡ sets (sets out.now at kept) at text)) ×
-      (length out.now < at + 75 → (answer ≡ W.Refused NoSpace) × (after ≡ out.now)))
+      (at + 75 ≤ length out.now → (answer ≡ Ok (at + length text)) × (after ≡ sets (sets out.now at kept) at text)) ×
+      (length out.now < at + 75 → (answer ≡ Err NoSpace) × (after ≡ out.now)))
   -- a trace's text, with room for any trace of so many bytes
   pub replay : (trace : Bor (List ℕ)) (out : MutBor (List ℕ)) → EveryLent (λ exit. exit.1.0.now) transcript-replay.Post (trace, (out, tt)) (Writes (room_of (length trace.now)) out.now 0 (trace_text thread_slots trace.now))
   pub room_for_lem : Gives1 transcript-room-for.Post room_of
@@ -64,5 +63,5 @@ pub record Writers : Type 0 where
       let count = length trace.now / 16 in
       EveryLent (λ exit. exit.1.1.1.0.now) transcript-put-part.Post (m, (first, (trace, (out, (at, tt))))) (λ answer after.
       (first + count ≤ max64 → Writes (count * 75) out.now at (lines_from m first ds) answer.written after) ×
-      (max64 < first + count → (answer.written ≡ W.Refused Overflow) × (after ≡ out.now)) ×
+      (max64 < first + count → (answer.written ≡ Err Overflow) × (after ≡ out.now)) ×
       (answer.machine ≡ cond (ltb max64 (first + count) || ltb (length out.now) (at + count * 75)) m (machine_after m ds)))

@@ -3,6 +3,7 @@
 
 ghost use Rattle.std.specs.Prelude.{◌≡◌};
 ghost use Rattle.error.specs.Numbers.{number_of};
+ghost use Rattle.error.specs.Said.{number_in};
 
 pub const OK: i32 = 0;
 
@@ -21,7 +22,7 @@ pub const EALREADY: i32 = -114;
 pub const EOVERFLOW: i32 = -139;
 
 // Why an entry turns its caller away.
-#[derive(Clone, Copy)]
+#[derive(Clone, Copy, PartialEq, Eq)]
 pub enum Refusal {
     // Nothing is set up yet.
     Missing,
@@ -40,6 +41,7 @@ pub enum Refusal {
 }
 
 impl Refusal {
+    // A method and no `From`: `i32::from(why)` would not say which number that is.
     pub fn number(self) -> i32
         ensures { result ≡ number_of self }
     {
@@ -52,5 +54,16 @@ impl Refusal {
             Refusal::Already => EALREADY,
             Refusal::Overflow => EOVERFLOW,
         }
+    }
+}
+
+// The number of an answer: 0 where it was accepted.
+#[tactic(auto, unfolding(crate::specs::Said::number_in))]
+pub fn number<T: Drop>(answer: Result<T, Refusal>) -> i32
+    ensures { result ≡ number_in answer }
+{
+    match answer {
+        Ok(_) => OK,
+        Err(why) => why.number(),
     }
 }

@@ -1,4 +1,5 @@
 -- The ledger's fields agree with what an onlooker keeps: carried along every run.
+use Rattle.std.specs.Prelude.{Ok}
 use Prim.Native.Nat.{ℕ, zero, suc, ◌+◌, ◌%◌, ◌^◌, ◌<◌}
 use mathlib.Core.Path.{◌≡◌, refl, sym, ap, ◌∙◌, subst}
 use mathlib.Core.Bool.{Bool, true, false, cond, not, ◌&&◌}
@@ -22,7 +23,6 @@ use Rattle.books.specs.Entries.{enter_of}
 use Rattle.books.specs.Running.{stopped, is_running, open_cycles, stamp_of, unrecorded, past, busy, concerned}
 use Rattle.books.specs.Laws.{closes, flag_after, stamp_after, running_after, EntryIs}
 use Rattle.books.proofs.Entering.{entry_is}
-use Rattle.ledger.specs.declared.Answer.TheVariants as A
 use Rattle.ledger.specs.declared.Ledgered.{Ledgered}
 use Rattle.ledger.specs.Operate.{refused_with, operate_tests, operate_of}
 use Rattle.ledger.specs.Records.{thread_record}
@@ -295,7 +295,7 @@ step_keeps slots some ev w k =
     unchanged : (why : Refusal) → P (refused_with w.ledger why)
     unchanged why = record { size = k.size; mark = k.mark; flags = k.flags; totals = k.totals; machine = k.machine; chain = k.chain; follows = k.follows }
 
-    accepted : (e : Entry) → EntryIs w.ledger.books (thread_record w.ledger (concerned w.ledger.books ev.operation)) (stamp_of ev.time) ev.operation e → unrecorded w.ledger.books slots ≡ false → past ev.operation slots ≡ false → busy w.ledger.books ev.operation ≡ false → P (record { answer = A.Accepted e.cycles; ledger = record { books = e.books; threads = set w.ledger.threads (concerned w.ledger.books ev.operation) e.usage } })
+    accepted : (e : Entry) → EntryIs w.ledger.books (thread_record w.ledger (concerned w.ledger.books ev.operation)) (stamp_of ev.time) ev.operation e → unrecorded w.ledger.books slots ≡ false → past ev.operation slots ≡ false → busy w.ledger.books ev.operation ≡ false → P (record { answer = Ok e.cycles; ledger = record { books = e.books; threads = set w.ledger.threads (concerned w.ledger.books ev.operation) e.usage } })
     accepted e law r p free =
         let inside = within w.ledger.books ev.operation slots some r p in
         record {

@@ -1,4 +1,5 @@
 -- What holds of every run of a ledger of any number of slots from a fresh one.
+use Rattle.std.specs.Prelude.{Err}
 use Prim.Native.Nat.{ℕ, ◌+◌, ◌≤◌, ◌<◌}
 use mathlib.Core.Path.{◌≡◌}
 use mathlib.Core.Bool.{false, ◌&&◌}
@@ -12,8 +13,6 @@ use Rattle.books.specs.declared.Operation.{Operation}
 use Rattle.books.specs.Running.{stamp_of, open_cycles}
 use Rattle.books.specs.Laws.{closes, too_many}
 use Rattle.ledger.specs.declared.Ledger.{Ledger}
-use Rattle.ledger.specs.declared.Answer.TheVariants as A
-use Rattle.ledger.specs.declared.Reported.TheVariants as R
 use Rattle.ledger.specs.Operate.{operate_of, report_of}
 use Rattle.ledger.specs.Records.{thread_record, concerned_record}
 use Rattle.ledger.specs.Sums.{Stretch, sum_of, measured, TotalNear, ChainNear}
@@ -51,8 +50,8 @@ pub record Agrees (slots : ℕ) (w : World) : Type 0 where
 
 -- nothing is refused with -22, since a running thread has a record
 pub record NeverInvalid (l : Ledger) : Type 0 where
-  pub operations : (reading : Cycles) (op : Operation) → (operate_of l reading op).answer ≡ A.Refused Invalid → ⊥
-  pub reports : (i : ℕ) → report_of l i ≡ R.Refused Invalid → ⊥
+  pub operations : (reading : Cycles) (op : Operation) → (operate_of l reading op).answer ≡ Err Invalid → ⊥
+  pub reports : (i : ℕ) → report_of l i ≡ Err Invalid → ⊥
 
 -- operations at times that never fall, from a time to a time
 abbrev pub Timely : ℕ → List Event → ℕ → Type 0

@@ -1,4 +1,5 @@
 -- What an operation does to the whole ledger, for every thread.
+use Rattle.std.specs.Prelude.{Result, Ok, Err}
 use Prim.Native.Nat.{ℕ}
 use mathlib.Core.Path.{◌≡◌, refl, sym}
 use lib.ListN.{length, set, length-set}
@@ -7,13 +8,10 @@ use Rattle.error.specs.declared.Refusal.{Refusal}
 use Rattle.error.proofs.Ordered.{by_outcome}
 use Rattle.usage.specs.Formulas.{new_idle}
 use Rattle.books.specs.declared.Entry.{Entry}
-use Rattle.books.specs.declared.Entered.{Entered}
-use Rattle.books.specs.declared.Entered.TheVariants as E
 use Rattle.books.specs.Running.{stamp_of, concerned}
 use Rattle.books.specs.Entries.{enter_of}
 use Rattle.books.proofs.Entering.{entry_is}
 use Rattle.ledger.specs.declared.Ledger.{Ledger}
-use Rattle.ledger.specs.declared.Answer.TheVariants as A
 use Rattle.ledger.specs.declared.Ledgered.{Ledgered}
 use Rattle.ledger.specs.Operate.{refused_with, stored_in, operate_tests, operate_of}
 use Rattle.ledger.specs.Records.{thread_record}
@@ -21,10 +19,10 @@ use Rattle.ledger.specs.Laws.{AnswerIs, EveryOperation}
 use Rattle.ledger.proofs.Operating.{within}
 
 -- what holds of every refusal and of what an accepted entry leaves holds of the outcome
-pub stored_by : (l : Ledger) (at : ℕ) (P : Ledgered → Type 0) (x : Entered) → ((why : Refusal) → P (refused_with l why)) → ((e : Entry) → x ≡ E.Accepted e → P (record { answer = A.Accepted e.cycles; ledger = record { books = e.books; threads = set l.threads at e.usage } })) → P (stored_in l at x)
+pub stored_by : (l : Ledger) (at : ℕ) (P : Ledgered → Type 0) (x : Result Entry Refusal) → ((why : Refusal) → P (refused_with l why)) → ((e : Entry) → x ≡ Ok e → P (record { answer = Ok e.cycles; ledger = record { books = e.books; threads = set l.threads at e.usage } })) → P (stored_in l at x)
 unfolding stored_in
-stored_by l at P (E.Accepted e) refused f = f e refl
-stored_by l at P (E.Refused why) refused f = refused why
+stored_by l at P (Ok e) refused f = f e refl
+stored_by l at P (Err why) refused f = refused why
 
 pub every_operation : EveryOperation
 unfolding operate_of

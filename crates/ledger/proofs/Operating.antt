@@ -1,4 +1,5 @@
 -- Each outcome of an operation on the whole ledger, over a table of any number of slots.
+use Rattle.std.specs.Prelude.{Result, Ok, Err}
 use Prim.Native.Nat.{ℕ, ◌<◌}
 use mathlib.Core.Path.{◌≡◌, sym, ap, ◌∙◌}
 use mathlib.Core.Bool.{Bool, true, false, cond, not, ◌&&◌}
@@ -6,22 +7,18 @@ use lib.ListN.{length}
 use lib.Dec.{eqb}
 use borrow.Author.Tests.{leb-false}
 use Rattle.error.specs.declared.Refusal.{Refusal}
-use Rattle.error.specs.declared.Refusal.TheVariants.{Invalid, BadThread, Already}
+use Rattle.error.specs.declared.Refusal.TheVariants.{Invalid, BadThread}
 use Rattle.units.specs.declared.Cycles.{Cycles}
 use Rattle.books.specs.declared.Books.{Books}
 use Rattle.books.specs.declared.Entry.{Entry}
-use Rattle.books.specs.declared.Entered.{Entered}
-use Rattle.books.specs.declared.Entered.TheVariants as E
 use Rattle.books.specs.declared.Operation.{Operation}
 use Rattle.books.specs.declared.Operation.TheVariants as O
 use Rattle.books.specs.Enter.{entry_of}
 use Rattle.books.specs.Running.{no_thread, unrecorded, past, busy, concerned}
-use Rattle.books.specs.Says.{entered_why}
 use Rattle.books.proofs.Outcomes.{entry_free}
 use Rattle.ledger.specs.declared.Ledger.{Ledger}
 use Rattle.ledger.specs.declared.Ledgered.{Ledgered}
 use Rattle.ledger.specs.declared.ThreadReport.{ThreadReport}
-use Rattle.ledger.specs.declared.Reported.TheVariants as R
 use Rattle.ledger.specs.Operate.{refused_with, stored_in, operate_of, report_of}
 use Rattle.ledger.specs.Records.{thread_record, report_value}
 
@@ -54,31 +51,23 @@ module _ (l : Ledger) (reading : Cycles) (op : Operation) {slots : ℕ} (n : len
     no_thread_lem e = simp (n, recorded, e)
 
     module _ (named : past op slots ≡ false) where
-      pub under_way : busy l.books op ≡ true → refused_with l Already ≡ operate_of l reading op
-      unfolding operate_of
-      under_way e = simp (n, recorded, named, e)
-
-      module _ (free : busy l.books op ≡ false) {k : ℕ} {x : Entered} (ek : k ≡ concerned l.books op) (ex : x ≡ entry_of l.books (thread_record l k) reading op) where
+      module _ (free : busy l.books op ≡ false) {k : ℕ} {x : Result Entry Refusal} (ek : k ≡ concerned l.books op) (ex : x ≡ entry_of l.books (thread_record l k) reading op) where
         pub storing : operate_of l reading op ≡ stored_in l k x
         unfolding operate_of
         storing = simp (n, recorded, named, free, ex ∙ entry_free l.books (thread_record l k) reading op free, ek)
 
-        pub entry_refused : {why handed-on : Refusal} {answer : Ledgered} → x ≡ E.Refused why → handed-on ≡ entered_why x → answer ≡ refused_with l handed-on → answer ≡ operate_of l reading op
-        unfolding stored_in entered_why
-        entry_refused q h a = a ∙ (ap (refused_with l) (h ∙ ap entered_why q) ∙ sym (storing ∙ ap (stored_in l k) q))
+        pub entry_refused : {why : Refusal} {answer : Ledgered} → x ≡ Err why → answer ≡ refused_with l why → answer ≡ operate_of l reading op
+        unfolding stored_in
+        entry_refused q a = a ∙ sym (storing ∙ ap (stored_in l k) q)
 
-        pub entry_stored : {e : Entry} → x ≡ E.Accepted e → stored_in l k (E.Accepted e) ≡ operate_of l reading op
+        pub entry_stored : {e : Entry} → x ≡ Ok e → stored_in l k (Ok e) ≡ operate_of l reading op
         entry_stored q = sym (storing ∙ ap (stored_in l k) q)
 
 module _ (l : Ledger) (i : ℕ) {slots : ℕ} (n : length l.threads ≡ slots) where
-  pub report_unrecorded : unrecorded l.books slots ≡ true → R.Refused Invalid ≡ report_of l i
-  unfolding report_of
-  report_unrecorded e = simp (n, e)
-
-  pub report_past : unrecorded l.books slots ≡ false → no_thread slots i ≡ true → R.Refused BadThread ≡ report_of l i
+  pub report_past : unrecorded l.books slots ≡ false → no_thread slots i ≡ true → Err BadThread ≡ report_of l i
   unfolding report_of
   report_past e past = simp (n, e, past)
 
-  pub reported : {report : ThreadReport} → unrecorded l.books slots ≡ false → no_thread slots i ≡ false → report ≡ report_value (thread_record l i) → R.Accepted report ≡ report_of l i
+  pub reported : {report : ThreadReport} → unrecorded l.books slots ≡ false → no_thread slots i ≡ false → report ≡ report_value (thread_record l i) → Ok report ≡ report_of l i
   unfolding report_of
   reported e named is = simp (n, e, named, is)

@@ -8,7 +8,7 @@ use native.Mathlib.Omega.{arith}
 use Rattle.usage.specs.Leaves.{enabled, accumulated}
 use Rattle.books.specs.declared.Operation.{Operation}
 use Rattle.books.specs.declared.Operation.TheVariants as O
-use Rattle.books.specs.Entries.{charged, with_change, onward, close_of, stop_of, switch_of, altered, reopen_of, alter_of, enter_of}
+use Rattle.books.specs.Entries.{charged, onward, close_of, stop_of, switch_of, altered, reopen_of, alter_of, enter_of}
 use Rattle.books.specs.Running.{is_running, stamp_of, unrecorded, past, busy, concerned}
 use Rattle.ledger.specs.Operate.{stored_in, operate_of}
 use Rattle.ledger.specs.Records.{thread_record}
@@ -37,7 +37,7 @@ record SumsShown : Type 0 where
   tracked_only : ((thread_record six.ledger 1).total_cycles.0 ≡ 8) × (sum_of true_cycles 1 six.threads.closed ≡ 8) × ((thread_record six.ledger 1).num_windows ≡ 2)
 
 shown : SumsShown
-unfolding enabled accumulated stamp_of is_running charged with_change onward close_of stop_of switch_of altered reopen_of alter_of enter_of unrecorded past busy concerned stored_in operate_of sum_of closes_now begins open_after tracked_after step after
+unfolding enabled accumulated stamp_of is_running charged onward close_of stop_of switch_of altered reopen_of alter_of enter_of unrecorded past busy concerned stored_in operate_of sum_of closes_now begins open_after tracked_after step after
 shown = record {
   one_too_many = (refl, refl, refl);
   long_chain = (refl, refl, refl);

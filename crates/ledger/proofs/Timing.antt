@@ -1,12 +1,11 @@
 -- Where no time falls, no stretch ends before it began, and what was measured by a time is hardly more than that time.
+use Rattle.std.specs.Prelude.{Result, Ok, Err}
 use Prim.Native.Nat.{ℕ, ◌+◌, ◌≤◌}
 use mathlib.Core.Bool.{Bool, true, false, cond}
 use mathlib.Core.List.{List, [], ◌∷◌}
 use native.Mathlib.Omega.{arith}
 use Rattle.books.specs.declared.Operation.{Operation}
 use Rattle.books.specs.declared.Operation.TheVariants as O
-use Rattle.ledger.specs.declared.Answer.{Answer}
-use Rattle.ledger.specs.declared.Answer.TheVariants as A
 use Rattle.ledger.specs.declared.Ledger.{Ledger}
 use Rattle.ledger.specs.Operate.{operate_of}
 use Rattle.ledger.specs.Sums.{Stretch, measured}
@@ -14,6 +13,7 @@ use Rattle.ledger.specs.Threads.{Threads, Open, none, since, closes_now, begins,
 use Rattle.ledger.proofs.Run.{World, Event, begin, after_answer, step, after}
 use Rattle.ledger.proofs.Holds.{all_of, Timely}
 use Rattle.ledger.proofs.Adding.{off, Ordered, ChainOrdered, stamps_most, later_off}
+use Rattle.error.specs.declared.Refusal.{Refusal}
 
 -- all that was measured, by now: no more than the time at which the open stretch began, or none runs and no more than now
 abbrev pub Spent : List Stretch → ℕ → Open → Type 0
@@ -75,9 +75,9 @@ module _ (t : Threads) (now time : ℕ) (h : now ≤ time) (k : InTime t now) wh
       let chained = chain_after (begins t op) (closes_now t op) in
       record { spent = spent_after op; ordered = (closed_by (closes_now t op)).1; chain = chained.0; reached = chained.1 }
 
-answered : (w : World) (e : Event) (l : Ledger) (a : Answer) (now : ℕ) → now ≤ e.time → InTime w.threads now → InTime (after_answer w e l a).threads e.time
-answered w e l (A.Accepted cycles) now h k = operated_in_time w.threads now e.time h k e.operation
-answered w e l (A.Refused why) now h k = still e.time h k
+answered : (w : World) (e : Event) (l : Ledger) (a : Result ℕ Refusal) (now : ℕ) → now ≤ e.time → InTime w.threads now → InTime (after_answer w e l a).threads e.time
+answered w e l (Ok cycles) now h k = operated_in_time w.threads now e.time h k e.operation
+answered w e l (Err why) now h k = still e.time h k
 
 all_in_time : (es : List Event) (w : World) (now time : ℕ) → Timely now es time → InTime w.threads now → InTime (after es w).threads time
 unfolding after step

@@ -1,5 +1,5 @@
 -- Believed: what every operation does to the books and to each record of a ledger, and exactly when it is refused.
-use Rattle.std.specs.Prelude.{ℕ, ◌<◌, ◌≡◌, [], ◌∷◌, length}
+use Rattle.std.specs.Prelude.{ℕ, ◌<◌, ◌≡◌, [], ◌∷◌, length, Result, Ok, Err}
 use Rattle.error.specs.declared.Refusal.TheVariants.{BadThread, Already, Invalid, Overflow}
 use Rattle.error.specs.Numbers.{ok, number_of}
 use Rattle.error.specs.InOrder.{in_order}
@@ -8,10 +8,9 @@ use Rattle.books.specs.declared.Operation.{Operation}
 use Rattle.books.specs.Running.{stamp_of, unrecorded, past, busy, concerned}
 use Rattle.books.specs.Laws.{EntryIs, full}
 use Rattle.ledger.specs.declared.Ledger.{Ledger}
-use Rattle.ledger.specs.declared.Answer.{Answer}
-use Rattle.ledger.specs.declared.Answer.TheVariants as A
 use Rattle.ledger.specs.Operate.{operate_of}
 use Rattle.ledger.specs.Records.{thread_record, concerned_record, answer_says}
+use Rattle.error.specs.declared.Refusal.{Refusal}
 
 -- the whole ledger: the record concerned is as its entry says, and every other stays
 pub record Operated (l : Ledger) (reading : Cycles) (op : Operation) (cycles : ℕ) (next : Ledger) : Type 0 where
@@ -20,9 +19,9 @@ pub record Operated (l : Ledger) (reading : Cycles) (op : Operation) (cycles : �
   pub slots : length next.threads ≡ length l.threads
 
 -- a refused operation leaves the whole ledger as it was
-abbrev pub AnswerIs : Ledger → Cycles → Operation → Ledger → Answer → Type 0
-AnswerIs l reading op next (A.Accepted cycles) = Operated l reading op cycles next
-AnswerIs l reading op next (A.Refused why) = next ≡ l
+abbrev pub AnswerIs : Ledger → Cycles → Operation → Ledger → Result ℕ Refusal → Type 0
+AnswerIs l reading op next (Ok cycles) = Operated l reading op cycles next
+AnswerIs l reading op next (Err why) = next ≡ l
 
 abbrev pub EveryOperation : Type 0
 EveryOperation = (l : Ledger) (reading : Cycles) (op : Operation) → 0 < length l.threads → AnswerIs l reading op (operate_of l reading op).ledger (operate_of l reading op).answer

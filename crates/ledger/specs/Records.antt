@@ -1,14 +1,13 @@
 -- Believed: the thread records of a ledger, what an operation's answer says, and what a report tells of a record.
-use Rattle.std.specs.Prelude.{ℕ, get_or, replicate}
-use Rattle.error.specs.Said.{Said, accepted, refused}
+use Rattle.std.specs.Prelude.{ℕ, get_or, replicate, Result}
+use Rattle.error.specs.Said.{Said, says}
 use Rattle.usage.specs.declared.ThreadUsage.{ThreadUsage}
 use Rattle.usage.specs.Formulas.{new_idle, average_cycles}
 use Rattle.books.specs.declared.Operation.{Operation}
 use Rattle.books.specs.Running.{nothing_booked, concerned}
 use Rattle.ledger.specs.declared.Ledger.{Ledger}
 use Rattle.ledger.specs.declared.ThreadReport.{ThreadReport}
-use Rattle.ledger.specs.declared.Answer.{Answer}
-use Rattle.ledger.specs.declared.Answer.TheVariants as A
+use Rattle.error.specs.declared.Refusal.{Refusal}
 
 -- a ledger of so many threads in which nothing has run
 abbrev pub fresh_ledger : ℕ → Ledger
@@ -26,6 +25,5 @@ abbrev pub report_value : ThreadUsage → ThreadReport
 report_value u = record { total = u.total_cycles; average = average_cycles u.total_cycles u.num_windows }
 
 -- the cycles closed
-unfoldable pub answer_says : Answer → Said ℕ
-answer_says (A.Accepted cycles) = accepted cycles
-answer_says (A.Refused why) = refused why 0
+abbrev pub answer_says : Result ℕ Refusal → Said ℕ
+answer_says answer = says 0 answer

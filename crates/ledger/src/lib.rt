@@ -2,11 +2,10 @@
 #![tactic(auto)]
 
 ghost use Rattle.std.specs.Prelude.{◌≡◌};
-ghost use Rattle.ledger.specs.Operate.{refused_with, operate_of, report_of};
-ghost use Rattle.ledger.specs.Records.{fresh_ledger, report_value, answer_says};
-ghost use Rattle.ledger.specs.Says.{reported_says};
+ghost use Rattle.ledger.specs.Operate.{ledger_of, operate_of, report_of};
+ghost use Rattle.ledger.specs.Records.{fresh_ledger, report_value};
 
-use books::{Books, Entered, Operation};
+use books::{Books, Operation};
 use error::Refusal;
 use units::Cycles;
 use usage::ThreadUsage;
@@ -17,16 +16,9 @@ pub struct Ledger {
     pub threads: [ThreadUsage; ThreadUsage::SLOTS],
 }
 
-// The cycles closed, or the reason why not.
-#[derive(Clone, Copy)]
-pub enum Answer {
-    Accepted(u32),
-    Refused(Refusal),
-}
-
 #[derive(Clone, Copy)]
 pub struct Ledgered {
-    pub answer: Answer,
+    pub answer: Result<u32, Refusal>,
     pub ledger: Ledger,
 }
 
@@ -49,117 +41,63 @@ impl ThreadReport {
     }
 }
 
-#[derive(Clone, Copy)]
-pub enum Reported {
-    Accepted(ThreadReport),
-    Refused(Refusal),
-}
-
-fn refused(ledger: Ledger, why: Refusal) -> Ledgered
-    ensures { result ≡ refused_with ledger why }
+// An operation in place, over books and thread records that are lent: at most one record is read and written. A refusal
+// leaves all as it was.
+#[tactic(auto, using(crate::proofs::Operating::within, crate::proofs::Operating::storing), unfolding(crate::specs::Operate::operate_of, crate::specs::Operate::stored_in))]
+pub fn operate_on(
+    books: &mut Books,
+    threads: &mut [ThreadUsage; ThreadUsage::SLOTS],
+    reading: Cycles,
+    operation: Operation,
+) -> Result<u32, Refusal>
+    ensures { record { answer = result; ledger = ledger_of books.new threads.new } ≡ operate_of (ledger_of books.old threads.old) reading operation }
 {
-    Ledgered {
-        answer: Answer::Refused(why),
-        ledger: ledger,
-    }
-}
-
-#[tactic(auto, unfolding(crate::specs::Operate::operate_of))]
-pub fn operate(ledger: Ledger, reading: Cycles, operation: Operation) -> Ledgered
-    ensures { result ≡ operate_of ledger reading operation }
-{
-    let books = ledger.books;
-    if books::unrecorded(books, ThreadUsage::SLOTS) {
-        return refused(ledger, Refusal::Invalid);
+    if books::unrecorded(*books, ThreadUsage::SLOTS) {
+        return Err(Refusal::Invalid);
     }
     if books::past(operation, ThreadUsage::SLOTS) {
-        return refused(ledger, Refusal::BadThread);
+        return Err(Refusal::BadThread);
     }
-    if books::busy(books, operation) {
-        return refused(ledger, Refusal::Already);
+    if books::busy(*books, operation) {
+        return Err(Refusal::Already);
     }
-    let thread = books::concerned(books, operation);
-    let k = thread as usize;
-    let usage = ledger.threads[k];
-    let entered = books::enter(books, usage, reading, operation);
-    let Entered::Accepted(entry) = entered else {
-        return refused(ledger, entered.refusal());
-    };
-    let after = entry.books;
-    let next = entry.usage;
-    let mut changed = ledger;
-    changed.books = after;
-    changed.threads[k] = next;
-    Ledgered {
-        answer: Answer::Accepted(entry.cycles),
-        ledger: changed,
-    }
+    let k = books::concerned(*books, operation) as usize;
+    let entry = books::enter(*books, threads[k], reading, operation)?;
+    *books = entry.books;
+    threads[k] = entry.usage;
+    Ok(entry.cycles)
 }
 
 #[tactic(auto, unfolding(crate::specs::Operate::report_of))]
-pub fn report(ledger: Ledger, thread: u32) -> Reported
-    ensures { result ≡ report_of ledger thread }
+pub fn report_from(
+    books: &Books,
+    threads: &[ThreadUsage; ThreadUsage::SLOTS],
+    thread: u32,
+) -> Result<ThreadReport, Refusal>
+    ensures { result ≡ report_of (ledger_of books.now threads.now) thread }
 {
-    let books = ledger.books;
-    if books::unrecorded(books, ThreadUsage::SLOTS) {
-        return Reported::Refused(Refusal::Invalid);
+    if books::unrecorded(*books, ThreadUsage::SLOTS) {
+        return Err(Refusal::Invalid);
     }
     if books::no_thread(ThreadUsage::SLOTS, thread) {
-        return Reported::Refused(Refusal::BadThread);
+        return Err(Refusal::BadThread);
     }
     let k = thread as usize;
-    Reported::Accepted(ThreadReport::of(ledger.threads[k]))
+    Ok(ThreadReport::of(threads[k]))
 }
 
-#[tactic(auto, unfolding(crate::specs::Records::answer_says))]
-impl Answer {
-    pub fn number(self) -> i32
-        ensures { result ≡ (answer_says self).number }
-    {
-        match self {
-            Answer::Accepted(_) => error::OK,
-            Answer::Refused(why) => why.number(),
-        }
-    }
-
-    pub fn cycles(self) -> u32
-        ensures { result ≡ (answer_says self).value }
-    {
-        match self {
-            Answer::Accepted(cycles) => cycles,
-            Answer::Refused(_) => 0,
-        }
-    }
+// The same by value, as the statements over whole ledgers have it (`EveryOperation`).
+pub fn operate(mut ledger: Ledger, reading: Cycles, operation: Operation) -> Ledgered
+    ensures { result ≡ operate_of ledger reading operation }
+{
+    let answer = operate_on(&mut ledger.books, &mut ledger.threads, reading, operation);
+    Ledgered { answer, ledger }
 }
 
-#[tactic(auto, unfolding(crate::specs::Says::reported_says))]
-impl Reported {
-    pub fn number(self) -> i32
-        ensures { result ≡ (reported_says self).number }
-    {
-        match self {
-            Reported::Accepted(_) => error::OK,
-            Reported::Refused(why) => why.number(),
-        }
-    }
-
-    pub fn total(self) -> Cycles
-        ensures { result ≡ (reported_says self).value.total }
-    {
-        match self {
-            Reported::Accepted(report) => report.total,
-            Reported::Refused(_) => Cycles(0),
-        }
-    }
-
-    pub fn average(self) -> Cycles
-        ensures { result ≡ (reported_says self).value.average }
-    {
-        match self {
-            Reported::Accepted(report) => report.average,
-            Reported::Refused(_) => Cycles(0),
-        }
-    }
+pub fn report(ledger: Ledger, thread: u32) -> Result<ThreadReport, Refusal>
+    ensures { result ≡ report_of ledger thread }
+{
+    report_from(&ledger.books, &ledger.threads, thread)
 }
 
 // A ledger in which nothing has run.

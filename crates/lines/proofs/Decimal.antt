@@ -1,7 +1,11 @@
 -- The digits of a number by its last one, two or four, and how many they are.
-use Rattle.std.proofs.Common.{ℕ, zero, suc, ◌+◌, ◌/◌, ◌%◌, ◌^◌, ◌≤◌, ◌<◌, ◌≡◌, refl, sym, ap, ◌∙◌, Bool, true, false, cond, List, [], ◌∷◌, ◌++◌, append_assoc, arith, pow-suc, length, length-append, ltb, lt-ltb, le-ltb, ltb-true, ltb-false}
+use Rattle.std.proofs.Common.{ℕ, zero, suc, ◌+◌, ◌/◌, ◌%◌, ◌^◌, ◌≤◌, ◌<◌, ◌≡◌, refl, sym, ap, ◌∙◌, Bool, true, false, cond, List, [], ◌∷◌, ◌++◌, append_assoc, arith, pow-suc, length, take, drop, length-append, ltb, lt-ltb, le-ltb, ltb-false}
+use Rattle.std.specs.Fmt as std
+use Rattle.std.proofs.lemmas.Fmt.{decimal_by_steps}
+use Rattle.std.proofs.lemmas.List.Edits.{sets}
 use Rattle.lines.specs.Text.{digits_of, decimal}
-use Rattle.lines.specs.Writing.{two, four}
+use Rattle.lines.proofs.Stores.{stood}
+use Rattle.lines.specs.Writing.{two}
 
 -- any limit that is not below the number gives all its digits
 enough : (most more n : ℕ) → n ≤ most → n ≤ more → digits_of most n ≡ digits_of more n
@@ -31,9 +35,6 @@ more (suc m) h =
     simp (le-ltb (suc m) 10 h)
     (ap (λ (t : List ℕ). t ++ ((48 + suc m % 10) ∷ [])) (enough m (suc m / 10) (suc m / 10) (omega arith) (omega arith)))
 
-pub two_digits : (n : ℕ) → 10 ≤ n → n < 100 → decimal n ≡ two n
-two_digits n h k = more n h ∙ ap (λ (t : List ℕ). t ++ ((48 + n % 10) ∷ [])) (one (n / 10) (omega arith))
-
 -- the last two digits apart
 pub by_two : (n : ℕ) → 100 ≤ n → decimal n ≡ decimal (n / 100) ++ two (n % 100)
 by_two n h =
@@ -45,57 +46,41 @@ by_two n h =
     append_assoc (decimal (n / 10 / 10)) ((48 + n / 10 % 10) ∷ []) ((48 + n % 10) ∷ []) ∙
     rw (high, tens, ones)
 
-pub three_digits : (n : ℕ) → 100 ≤ n → n < 1000 → decimal n ≡ (48 + n / 100) ∷ two (n % 100)
-three_digits n h k = by_two n h ∙ ap (λ (t : List ℕ). t ++ two (n % 100)) (one (n / 100) (omega arith))
-
-pub four_digits : (n : ℕ) → 1000 ≤ n → n < 10000 → decimal n ≡ four n
-four_digits n h k = by_two n (omega arith) ∙ ap (λ (t : List ℕ). t ++ two (n % 100)) (two_digits (n / 100) (omega arith) (omega arith))
-
--- the last four digits apart
-pub by_four : (n : ℕ) → 10000 ≤ n → decimal n ≡ decimal (n / 10000) ++ four (n % 10000)
-by_four n h =
-    let high : n / 100 / 100 ≡ n / 10000 = omega arith in
-    let hundreds : n / 100 % 100 ≡ n % 10000 / 100 = omega arith in
-    let ones : n % 100 ≡ n % 10000 % 100 = omega arith in
-    by_two n (omega arith) ∙
-    ap (λ (t : List ℕ). t ++ two (n % 100)) (by_two (n / 100) (omega arith)) ∙
-    append_assoc (decimal (n / 100 / 100)) (two (n / 100 % 100)) (two (n % 100)) ∙
-    rw (high, hundreds, ones)
-
 pub size_one : (n : ℕ) → n < 10 → length (decimal n) ≡ 1
 size_one n h = ap length (one n h)
 
-pub size_two : (n : ℕ) → 10 ≤ n → n < 100 → length (decimal n) ≡ 2
-size_two n h k = ap length (two_digits n h k)
-
-pub size_three : (n : ℕ) → 100 ≤ n → n < 1000 → length (decimal n) ≡ 3
-size_three n h k = ap length (three_digits n h k)
-
-pub size_four : (n : ℕ) → 1000 ≤ n → n < 10000 → length (decimal n) ≡ 4
-size_four n h k = ap length (four_digits n h k)
-
-size_more : (n : ℕ) → 10 ≤ n → length (decimal n) ≡ length (decimal (n / 10)) + 1
+pub size_more : (n : ℕ) → 10 ≤ n → length (decimal n) ≡ length (decimal (n / 10)) + 1
 size_more n h = ap length (more n h) ∙ length-append (decimal (n / 10)) ((48 + n % 10) ∷ [])
 
 -- a number has a digit
 pub some_digits : (n : ℕ) → 1 ≤ length (decimal n)
-some_digits n = by_test (ltb n 10) refl
-  where
-    by_test : (b : Bool) → ltb n 10 ≡ b → 1 ≤ length (decimal n)
-    by_test true e = let s = size_one n (ltb-true n 10 e) in omega arith
-    by_test false e = let s = size_more n (ltb-false n 10 e) in omega arith
+some_digits n = grind (arith, size_one, size_more)
 
 pub size_by_four : (n : ℕ) → 10000 ≤ n → length (decimal n) ≡ length (decimal (n / 10000)) + 4
-size_by_four n h = ap length (by_four n h) ∙ length-append (decimal (n / 10000)) (four (n % 10000))
+size_by_four n h =
+    let high : n / 10 / 10 / 10 / 10 ≡ n / 10000 = omega arith in
+    rw (← high) (grind (arith, size_more))
 
 -- a number below 10 ^ k has at most k digits
 pub size_most : (k n : ℕ) → n < 10 ^ suc k → length (decimal n) ≤ suc k
 size_most zero n h = let e = size_one n h in omega arith
-size_most (suc k) n h = by_test (size_most k (n / 10) (omega (arith, pow-suc 10 (suc k)))) (ltb n 10) refl
-  where
-    by_test : length (decimal (n / 10)) ≤ suc k → (b : Bool) → ltb n 10 ≡ b → length (decimal n) ≤ suc (suc k)
-    by_test rest true e = let s = size_one n (ltb-true n 10 e) in omega arith
-    by_test rest false e = let s = size_more n (ltb-false n 10 e) in omega arith
+size_most (suc k) n h = let rest = size_most k (n / 10) (omega (arith, pow-suc 10 (suc k))) in grind (arith, size_one, size_more)
 
 pub size_64 : (n : ℕ) → n < 2 ^ 64 → length (decimal n) ≤ 20
 size_64 n h = size_most 19 n (omega arith)
+
+-- a head that is kept as text
+pub size_eight : (n : ℕ) → n < 100000000 → length (decimal n) ≤ 8
+size_eight n h = size_most 7 n h
+
+-- the library's text of a number is this one
+pub library : (n : ℕ) → n < 2 ^ 64 → std.decimal n ≡ decimal n
+library n h = decimal_by_steps (λ m s. s ≡ decimal m) (λ m low. sym (one m low)) (λ m s high e. rw e (sym (more m high))) n h
+
+-- which puts it before the place that it is given
+pub put_by_library : {now : List ℕ} (l : List ℕ) (at n from : ℕ) → n < 2 ^ 64 → at + length (decimal n) ≤ length l → from + length (std.decimal n) ≡ at + length (decimal n) → drop from now ≡ std.decimal n ++ drop (at + length (decimal n)) l → take from now ≡ take from l → now ≡ sets l at (decimal n)
+put_by_library l at n from h room start written before =
+    let same = library n h in
+    let long = ap length same in
+    let is : from ≡ at = omega arith in
+    stood l at (decimal n) room (rw is at before) (rw (same, is) at written)

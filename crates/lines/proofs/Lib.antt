@@ -1,12 +1,7 @@
 pub mod Decimal
 pub mod Stores
 pub mod Signs
-pub mod FromRight
 pub mod Whole
 pub mod Sizes
-pub mod Parts
-pub mod StepLine
-pub mod WordLine
 pub mod ReadsBack
 pub mod Named
-pub mod Labels

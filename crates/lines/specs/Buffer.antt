@@ -1,9 +1,8 @@
 -- Inside: a text put into a buffer or no room, as the writers' contracts cite it. `Writers` (crates/demands/specs/Writers.antt) says it of all.
-use Rattle.std.specs.Prelude.{ℕ, ◌+◌, Bool, cond, List, length, ltb, leb}
+use Rattle.std.specs.Prelude.{ℕ, ◌+◌, Bool, cond, List, length, ltb, leb, Result, Ok, Err}
 use Rattle.std.proofs.lemmas.List.Edits.{sets}
 use Rattle.error.specs.declared.Refusal.TheVariants.{NoSpace}
-use Rattle.lines.specs.declared.Written.{Written}
-use Rattle.lines.specs.declared.Written.TheVariants as W
+use Rattle.error.specs.declared.Refusal.{Refusal}
 
 -- no line of 64-bit numbers and a 32-bit code is longer, nor is the last one
 abbrev pub line_room : ℕ
@@ -25,12 +24,12 @@ unfoldable pub put_of : List ℕ → ℕ → List ℕ → List ℕ
 put_of buffer at text = cond (fits buffer at text) (sets buffer at text) buffer
 
 -- the place after the text, or no room
-unfoldable pub written_of : List ℕ → ℕ → List ℕ → Written
-written_of buffer at text = cond (fits buffer at text) (W.Accepted (at + length text)) (W.Refused NoSpace)
+unfoldable pub written_of : List ℕ → ℕ → List ℕ → Result ℕ Refusal
+written_of buffer at text = cond (fits buffer at text) (Ok (at + length text)) (Err NoSpace)
 
 -- the same where so much room is asked for, however short the text is
 unfoldable pub roomy_put : ℕ → List ℕ → ℕ → List ℕ → List ℕ
 roomy_put room buffer at text = cond (ltb (length buffer) (at + room)) buffer (sets buffer at text)
 
-unfoldable pub roomy_written : ℕ → List ℕ → ℕ → List ℕ → Written
-roomy_written room buffer at text = cond (ltb (length buffer) (at + room)) (W.Refused NoSpace) (W.Accepted (at + length text))
+unfoldable pub roomy_written : ℕ → List ℕ → ℕ → List ℕ → Result ℕ Refusal
+roomy_written room buffer at text = cond (ltb (length buffer) (at + room)) (Err NoSpace) (Ok (at + length text))

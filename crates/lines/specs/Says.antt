@@ -1,10 +1,7 @@
--- Inside: what the answer of a writer says. `Readers` (crates/demands/specs/Readers.antt) says it.
-use Rattle.std.specs.Prelude.{ℕ}
-use Rattle.error.specs.Said.{Said, accepted, refused}
-use Rattle.lines.specs.declared.Written.{Written}
-use Rattle.lines.specs.declared.Written.TheVariants as W
+-- Inside: what the answer of a writer says: `says` of crate error, 0 where it is refused. `Readers` (crates/demands/specs/Readers.antt) says it.
+use Rattle.std.specs.Prelude.{ℕ, Result}
+use Rattle.error.specs.declared.Refusal.{Refusal}
+use Rattle.error.specs.Said.{Said, says}
 
--- 0 where refused
-unfoldable pub written_says : Written → Said ℕ
-written_says (W.Accepted end) = accepted end
-written_says (W.Refused why) = refused why 0
+abbrev pub written_says : Result ℕ Refusal → Said ℕ
+written_says answer = says 0 answer

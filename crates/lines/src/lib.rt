@@ -2,14 +2,15 @@
 // room.
 #![tactic(auto)]
 
-ghost use Rattle.std.specs.Prelude.{◌≡◌, ◌+◌, ◌≤◌, [], ◌∷◌, ◌++◌, length, ltb, pos};
-ghost use Rattle.lines.specs.Says.{written_says};
+ghost use Rattle.std.specs.Prelude.{◌≡◌, Ok, Err, cond, ◌+◌, ◌≤◌, [], ◌∷◌, ◌++◌, length, ltb, pos};
 ghost use Rattle.lines.specs.Text.{signed, line_text, end_text, tail_text, input_text, values_text};
+ghost use Rattle.error.specs.declared.Refusal.TheVariants.{NoSpace};
+ghost use Rattle.lines.specs.Writing.{Put};
 ghost use Rattle.lines.specs.Buffer.{put_of, written_of, rest_room, roomy_put, roomy_written};
 
-use buffer::{lacks_room, put_letters};
+use buffer::{ask_room, put_letters};
 use codes::{code_places, put_code};
-use digits::{places, put_long, put_number};
+use digits::{places, put_number};
 use error::Refusal;
 
 mod buffer;
@@ -23,140 +24,98 @@ pub const LINE_ROOM: usize = 75;
 // And of it what follows the number.
 const REST_ROOM: usize = 54;
 
-#[derive(Clone, Copy)]
-pub enum Written {
-    // The place after the text.
-    Accepted(usize),
-    Refused(Refusal),
-}
-
-#[tactic(auto, unfolding(crate::specs::Says::written_says))]
-impl Written {
-    pub fn number(self) -> i32
-        ensures { result ≡ (written_says self).number }
-    {
-        match self {
-            Written::Accepted(_) => error::OK,
-            Written::Refused(why) => why.number(),
-        }
-    }
-
-    pub fn end(self) -> usize
-        ensures { result ≡ (written_says self).value }
-    {
-        match self {
-            Written::Accepted(end) => end,
-            Written::Refused(_) => 0,
-        }
-    }
-}
-
+#[tactic(auto, using(crate::proofs::Decimal::size_64, crate::proofs::Sizes::code_most, crate::proofs::Signs::same, crate::proofs::Stores::stores), unfolding(crate::specs::Text::line_text))]
 fn line_size(number: u64, code: i32, x: u64, y: u64) -> usize
     ensures { result ≡ length (line_text number code x y) }
 {
-    let number_size = places(number);
-    let code_size = code_places(code);
-    let x_size = places(x);
-    let y_size = places(y);
-    number_size + code_size + x_size + y_size + 4
+    places(number) + code_places(code) + places(x) + places(y) + 4
 }
 
 // Most lines are put far from the buffer's end; only near it is the size counted.
-fn lacks_line(room: usize, at: usize, number: u64, code: i32, x: u64, y: u64) -> bool
-    ensures { result ≡ ltb room (at + length (line_text number code x y)) }
+#[tactic(auto, using(crate::proofs::Sizes::line_room_lem, crate::proofs::Signs::same))]
+fn ask_line(room: usize, at: usize, number: u64, code: i32, x: u64, y: u64) -> Result<(), Refusal>
+    ensures { result ≡ cond (ltb room (at + length (line_text number code x y))) (Err NoSpace) (Ok tt) }
 {
-    if lacks_room(room, at, LINE_ROOM) {
-        let size = line_size(number, code, x, y);
-        return lacks_room(room, at, size);
-    }
-    false
+    ask_room(room, at, LINE_ROOM).or_else(|_| ask_room(room, at, line_size(number, code, x, y)))
 }
 
-// A step's line: its number, its code and two values. The number is seldom one digit.
-pub fn put_line(out: &mut [u8], at: usize, number: u64, code: i32, x: u64, y: u64) -> Written
+// What follows the number in a line: a code and two values.
+#[tactic(auto, using(crate::proofs::Signs::same, crate::proofs::Stores::stores))]
+fn put_rest(out: &mut [u8], at: usize, code: i32, x: u64, y: u64) -> usize
+    requires { at + length (values_text code x y) ≤ length out.old }
+    ensures { Put out.old out.new at result (values_text code x y) }
+{
+    let second = put_code(out, at, code, b' ');
+    let third = put_number(out, second, x, b' ');
+    put_number(out, third, y, b'\n')
+}
+
+// A step's line: its number, its code and two values.
+#[tactic(auto, using(crate::proofs::Signs::same, crate::proofs::Stores::stores), unfolding(crate::specs::Text::line_text, crate::specs::Buffer::written_of, crate::specs::Buffer::put_of, crate::specs::Buffer::fits))]
+pub fn put_line(
+    out: &mut [u8],
+    at: usize,
+    number: u64,
+    code: i32,
+    x: u64,
+    y: u64,
+) -> Result<usize, Refusal>
     ensures answer { result ≡ written_of out.old at (line_text number code x y) }
     ensures buffer { out.new ≡ put_of out.old at (line_text number code x y) }
 {
-    if lacks_line(out.len(), at, number, code, x, y) {
-        return Written::Refused(Refusal::NoSpace);
-    }
-    let second = put_long(out, at, number, b' ');
-    let third = put_code(out, second, code, b' ');
-    let fourth = put_number(out, third, x, b' ');
-    let end = put_number(out, fourth, y, b'\n');
-    Written::Accepted(end)
+    ask_line(out.len(), at, number, code, x, y)?;
+    let second = put_number(out, at, number, b' ');
+    Ok(put_rest(out, second, code, x, y))
 }
 
 // What follows the number in the line of a step that was accepted: code 0 and two values. Room is asked for the
 // longest, so that nothing has to be counted.
-pub fn put_values(out: &mut [u8], at: usize, x: u64, y: u64) -> Written
+#[tactic(auto, using(crate::proofs::Sizes::rest_room_lem), unfolding(crate::specs::Buffer::roomy_written, crate::specs::Buffer::roomy_put))]
+pub fn put_values(out: &mut [u8], at: usize, x: u64, y: u64) -> Result<usize, Refusal>
     ensures answer { result ≡ roomy_written rest_room out.old at (values_text (pos 0) x y) }
     ensures buffer { out.new ≡ roomy_put rest_room out.old at (values_text (pos 0) x y) }
 {
-    if lacks_room(out.len(), at, REST_ROOM) {
-        return Written::Refused(Refusal::NoSpace);
-    }
-    let space = at + 1;
-    let first = space + 1;
-    out[at] = b'0';
-    out[space] = b' ';
-    let last = put_number(out, first, x, b' ');
-    let end = put_number(out, last, y, b'\n');
-    Written::Accepted(end)
+    ask_room(out.len(), at, REST_ROOM)?;
+    Ok(put_rest(out, at, 0, x, y))
 }
 
-// The same for one that was turned away: its code, 0 and 0.
-pub fn put_refusal(out: &mut [u8], at: usize, code: i32) -> Written
+// The same for one that was turned away: its code, 0 and 0. It takes any code, and promises its text (`Writers`).
+#[tactic(auto, using(crate::proofs::Sizes::rest_room_lem, crate::proofs::Signs::same), unfolding(crate::specs::Buffer::roomy_written, crate::specs::Buffer::roomy_put))]
+pub fn put_refusal(out: &mut [u8], at: usize, code: i32) -> Result<usize, Refusal>
     ensures answer { result ≡ roomy_written rest_room out.old at (values_text code 0 0) }
     ensures buffer { out.new ≡ roomy_put rest_room out.old at (values_text code 0 0) }
 {
-    if lacks_room(out.len(), at, REST_ROOM) {
-        return Written::Refused(Refusal::NoSpace);
-    }
-    let zero = put_code(out, at, code, b' ');
-    let again = put_number(out, zero, 0, b' ');
-    let end = put_number(out, again, 0, b'\n');
-    Written::Accepted(end)
+    ask_room(out.len(), at, REST_ROOM)?;
+    Ok(put_rest(out, at, code, 0, 0))
 }
 
 // The line after the last record.
-pub fn put_end(out: &mut [u8], at: usize, cycles: u64, reading: u64) -> Written
+#[tactic(auto, using(crate::proofs::Decimal::size_64, crate::proofs::Stores::stores), unfolding(crate::specs::Text::end_text, crate::specs::Buffer::written_of, crate::specs::Buffer::put_of, crate::specs::Buffer::fits))]
+pub fn put_end(out: &mut [u8], at: usize, cycles: u64, reading: u64) -> Result<usize, Refusal>
     ensures answer { result ≡ written_of out.old at (end_text cycles reading) }
     ensures buffer { out.new ≡ put_of out.old at (end_text cycles reading) }
 {
-    let cycles_size = places(cycles);
-    let reading_size = places(reading);
-    let size = cycles_size + reading_size + 6;
-    if lacks_room(out.len(), at, size) {
-        return Written::Refused(Refusal::NoSpace);
-    }
-    put_letters(out, at, b"end ");
-    let second = at + 4;
+    ask_room(out.len(), at, places(cycles) + places(reading) + 6)?;
+    let second = put_letters(out, at, b"end ");
     let third = put_number(out, second, cycles, b' ');
-    let end = put_number(out, third, reading, b'\n');
-    Written::Accepted(end)
+    Ok(put_number(out, third, reading, b'\n'))
 }
 
 // A word with its space, and a code.
-fn put_reason(out: &mut [u8], at: usize, letters: &[u8], code: i32) -> Written
+#[tactic(auto, using(crate::proofs::Sizes::code_most, crate::proofs::Signs::same, crate::proofs::Stores::stores), unfolding(crate::specs::Buffer::written_of, crate::specs::Buffer::put_of, crate::specs::Buffer::fits))]
+fn put_reason(out: &mut [u8], at: usize, letters: &[u8], code: i32) -> Result<usize, Refusal>
     requires { length letters.now ≤ 8 }
     ensures answer { result ≡ written_of out.old at (letters.now ++ signed code ++ 10 ∷ []) }
     ensures buffer { out.new ≡ put_of out.old at (letters.now ++ signed code ++ 10 ∷ []) }
 {
-    let code_size = code_places(code);
-    let size = letters.len() + code_size + 1;
-    if lacks_room(out.len(), at, size) {
-        return Written::Refused(Refusal::NoSpace);
-    }
-    put_letters(out, at, letters);
-    let second = at + letters.len();
-    let end = put_code(out, second, code, b'\n');
-    Written::Accepted(end)
+    ask_room(out.len(), at, letters.len() + code_places(code) + 1)?;
+    let second = put_letters(out, at, letters);
+    Ok(put_code(out, second, code, b'\n'))
 }
 
 // A trace whose last record is not whole.
 #[tactic(auto, unfolding(crate::specs::Text::tail_text))]
-pub fn put_tail(out: &mut [u8], at: usize) -> Written
+pub fn put_tail(out: &mut [u8], at: usize) -> Result<usize, Refusal>
     ensures answer { result ≡ written_of out.old at tail_text }
     ensures buffer { out.new ≡ put_of out.old at tail_text }
 {
@@ -165,7 +124,7 @@ pub fn put_tail(out: &mut [u8], at: usize) -> Written
 
 // A trace that is larger than the room for it.
 #[tactic(auto, unfolding(crate::specs::Text::input_text))]
-pub fn put_input(out: &mut [u8], at: usize) -> Written
+pub fn put_input(out: &mut [u8], at: usize) -> Result<usize, Refusal>
     ensures answer { result ≡ written_of out.old at input_text }
     ensures buffer { out.new ≡ put_of out.old at input_text }
 {

@@ -1,18 +1,14 @@
 -- What the tests let through is accepted: no entry below turns away a task that passed.
+use Rattle.std.specs.Prelude.{Result, Ok}
 use Prim.Native.Nat.{ℕ}
 use mathlib.Core.Path.{◌≡◌, refl, sym}
 use mathlib.Core.Bool.{Bool, true, false, not, ◌&&◌, ◌||◌, false≢true}
-use Rattle.counter.specs.declared.Ran.TheVariants as R
 use Rattle.counter.specs.Cycle.{run_n}
 use Rattle.counter.specs.Entries.{ran_of}
 use Rattle.counter.proofs.Outcomes.{ran_on, in_range_of}
-use Rattle.clock.specs.declared.Gaps.{Gaps}
+use Rattle.counter.specs.declared.Gaps.{Gaps}
 use Rattle.clock.specs.declared.Timer.{Timer}
 use Rattle.clock.specs.declared.Announcement.{Announcement}
-use Rattle.clock.specs.declared.Announced.{Announced}
-use Rattle.clock.specs.declared.Announced.TheVariants as A
-use Rattle.clock.specs.declared.SetUp.TheVariants as U
-use Rattle.clock.specs.declared.Sampled.TheVariants as S
 use Rattle.clock.specs.Timer.{setup, well_formed}
 use Rattle.clock.specs.Entries.{set_up, sample_of}
 use Rattle.clock.specs.Sample.{sample_value}
@@ -29,15 +25,16 @@ use Rattle.table.specs.declared.tasks.Then.TheVariants as W
 use Rattle.table.specs.Task.{asked_by}
 use Rattle.table.specs.Table.{malformed}
 use Rattle.machine.proofs.Passed.{Passed}
+use Rattle.error.specs.declared.Refusal.{Refusal}
 
 abbrev pub Runs : Core → ℕ → Type 0
-Runs c p = ran_of c.timer.counter p ≡ R.Accepted (run_n p c.timer.counter)
+Runs c p = ran_of c.timer.counter p ≡ Ok (run_n p c.timer.counter)
 
 abbrev pub Samples : Core → Gaps → Type 0
-Samples c g = sample_of c.timer g ≡ S.Accepted (sample_value c.timer g)
+Samples c g = sample_of c.timer g ≡ Ok (sample_value c.timer g)
 
 abbrev pub SetsUp : Setup → Type 0
-SetsUp s = set_up s.period s.tick ≡ U.Accepted (setup s.period s.tick)
+SetsUp s = set_up s.period s.tick ≡ Ok (setup s.period s.tick)
 
 unfoldable pub Accepts : Core → Task → Type 0
 Accepts c (T.Run p) = Runs c p
@@ -63,8 +60,8 @@ module _ (c : Core) (slots : ℕ) (known : not c.ready && true ≡ false) (whole
   recorded_of = (neither c.ready (well_formed c.timer) _ known whole).1
 
 -- an accepted announcement is the leaf's
-pub announcement_is : (t : Timer) (a : Announcement) → announce_of t ≡ A.Accepted a → a ≡ announcement t
-announcement_is t a = announced_by t (λ (o : Announced). o ≡ A.Accepted a → a ≡ announcement t) (λ why e. clash (cc)) (λ let_through e. cc)
+pub announcement_is : (t : Timer) (a : Announcement) → announce_of t ≡ Ok a → a ≡ announcement t
+announcement_is t a = announced_by t (λ (o : Result Announcement Refusal). o ≡ Ok a → a ≡ announcement t) (λ why e. clash (cc)) (λ let_through e. cc)
 
 module _ (c : Core) (slots : ℕ) (whole : malformed c slots ≡ false) where
   pub let_through : (task : Task) → Passed c (asked_by c.books slots task) → Accepts c task

@@ -2,7 +2,7 @@ pub mod Passed
 pub mod Accepting
 pub mod Tying
 pub mod Stepping
-pub mod InPlace
 pub mod WholeClock
 pub mod Whole
 pub mod Shown
+pub mod AsMany

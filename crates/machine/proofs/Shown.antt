@@ -7,19 +7,19 @@ use Rattle.counter.specs.Readings.{good_period, in_range}
 use Rattle.clock.specs.Timer.{well_formed}
 use Rattle.clock.specs.Entries.{sample_of}
 use Rattle.clock.specs.Announce.{announce_of}
-use Rattle.books.specs.Entries.{charged, with_change, onward, close_of, stop_of, switch_of, altered, reopen_of, alter_of, enter_of}
+use Rattle.books.specs.Entries.{charged, onward, close_of, stop_of, switch_of, altered, reopen_of, alter_of, enter_of}
 use Rattle.books.specs.Running.{is_running, stamp_of, unrecorded, past, busy, concerned}
 use Rattle.books.specs.Enter.{entry_of}
 use Rattle.table.specs.Task.{task_of, asked_by}
 use Rattle.table.specs.Table.{malformed, columns}
 use Rattle.books.specs.Laws.{closes, rises, too_many, full}
 use Rattle.ledger.specs.Operate.{stored_in, operate_of, report_of}
-use Rattle.ledger.specs.Records.{answer_says}
 use Rattle.machine.specs.Step.{announce_rows, last_rows, record_rows, done_by, accepted_by, step_of}
 use Rattle.machine.specs.Shown.{TableShown}
+use Rattle.error.specs.Said.{number_in}
 
 pub shown : TableShown
-unfolding enabled accumulated average_cycles cycle run_n good_period in_range well_formed sample_of announce_of stamp_of is_running charged with_change onward close_of stop_of switch_of altered reopen_of alter_of enter_of unrecorded past busy entry_of concerned task_of asked_by malformed closes rises too_many full stored_in operate_of report_of announce_rows last_rows record_rows columns done_by accepted_by answer_says step_of
+unfolding enabled accumulated average_cycles cycle run_n good_period in_range well_formed sample_of announce_of stamp_of is_running charged onward close_of stop_of switch_of altered reopen_of alter_of enter_of unrecorded past busy entry_of concerned task_of asked_by malformed closes rises too_many full stored_in operate_of report_of announce_rows last_rows record_rows columns done_by accepted_by number_in step_of
 shown = record {
   cycles_fit = refl;
   cycles_above_lem = refl;

@@ -1,4 +1,5 @@
 -- The laws of 01's step: each refusal, exactly, what it leaves, and what an accepted record answers and leaves.
+use Rattle.std.specs.Prelude.{Result, Ok, Err}
 use Prim.Native.Nat.{ℕ}
 use mathlib.Core.Path.{◌≡◌, refl, sym, ap, ◌∙◌}
 use mathlib.Core.Bool.{Bool, true, false, false≢true}
@@ -7,9 +8,7 @@ use mathlib.Core.Logic.{inl, inr}
 use Rattle.error.proofs.Tests.{clash}
 use Rattle.error.specs.InOrder.{Row, in_order, NoneHolds, FirstIs}
 use Rattle.error.proofs.Ordered.{accepts, refuses, refused_only, by_outcome, carried, in_turn}
-use Rattle.clock.specs.declared.Gaps.{Gaps}
-use Rattle.clock.specs.declared.Announced.{Announced}
-use Rattle.clock.specs.declared.Announced.TheVariants as A
+use Rattle.counter.specs.declared.Gaps.{Gaps}
 use Rattle.clock.specs.Timer.{GoodSetup}
 use Rattle.clock.specs.Sample.{sample_value}
 use Rattle.clock.specs.Announce.{announce_of}
@@ -18,13 +17,11 @@ use Rattle.ledger.specs.Operate.{operate_of}
 use Rattle.trace.specs.declared.Record.{Record}
 use Rattle.trace.specs.declared.Record.TheVariants as K
 use Rattle.trace.specs.declared.Setup.{Setup}
-use Rattle.trace.specs.declared.Decoded.{Decoded}
-use Rattle.trace.specs.declared.Decoded.TheVariants as D
+use Rattle.trace.specs.Decode.{Decoded}
 use Rattle.table.specs.declared.Reason.{Reason}
 use Rattle.table.specs.declared.Reason.TheVariants as Why
 use Rattle.table.specs.declared.Values.{Values}
-use Rattle.table.specs.declared.Outcome.{Outcome}
-use Rattle.table.specs.declared.Outcome.TheVariants as O
+use Rattle.table.specs.Says.{Outcome}
 use Rattle.table.specs.declared.tasks.Asked.{Asked}
 use Rattle.table.specs.declared.tasks.Task.{Task}
 use Rattle.table.specs.declared.tasks.Task.TheVariants as T
@@ -40,31 +37,33 @@ use Rattle.machine.specs.Making.{operation_tells, entered_by}
 use Rattle.machine.specs.Laws.{Operates, Exactly, KeptByRefusal, EveryAnswer}
 use Rattle.machine.proofs.Accepting.{Runs, Samples, Accepts, let_through}
 use Rattle.machine.proofs.Tying.{operation_made}
+use Rattle.clock.specs.declared.Announcement.{Announcement}
+use Rattle.error.specs.declared.Refusal.{Refusal}
 
 -- a step by any rows: its outcome is that of its tests
 module _ (m : Machine) (rows : List (Row Reason)) (done : Done) where
   abbrev pub by_rows : Stepped
   by_rows = in_order rows (turned_away m done) (stepped_to done)
 
-  outcome_is : by_rows.outcome ≡ in_order rows O.Refused (O.Accepted done.values)
+  outcome_is : by_rows.outcome ≡ in_order rows Err (Ok done.values)
   outcome_is = carried (λ (s : Stepped). s.outcome) (turned_away m done) (stepped_to done) rows
 
-  none_held : (answered : Values) → by_rows.outcome ≡ O.Accepted answered → NoneHolds rows
-  none_held answered e = by_outcome O.Refused _ (λ (o : Outcome). o ≡ O.Accepted answered → NoneHolds rows) rows (λ why q. clash (cc)) (λ none q. none) (sym outcome_is ∙ e)
+  none_held : (answered : Values) → by_rows.outcome ≡ Ok answered → NoneHolds rows
+  none_held answered e = by_outcome Err _ (λ (o : Outcome). o ≡ Ok answered → NoneHolds rows) rows (λ why q. clash (cc)) (λ none q. none) (sym outcome_is ∙ e)
 
-  first_held : (why : Reason) → by_rows.outcome ≡ O.Refused why → FirstIs rows why
-  first_held why e = refused_only O.Refused _ (λ w q. clash (cc)) (λ r s q. cc) rows why (sym outcome_is ∙ e)
+  first_held : (why : Reason) → by_rows.outcome ≡ Err why → FirstIs rows why
+  first_held why e = refused_only Err _ (λ w q. clash (cc)) (λ r s q. cc) rows why (sym outcome_is ∙ e)
 
-  done_step : (answered : Values) → by_rows.outcome ≡ O.Accepted answered → by_rows ≡ stepped_to done
+  done_step : (answered : Values) → by_rows.outcome ≡ Ok answered → by_rows ≡ stepped_to done
   done_step answered e = accepts (turned_away m done) (stepped_to done) rows (none_held answered e)
 
-  refused_step : (why : Reason) → by_rows.outcome ≡ O.Refused why → by_rows ≡ turned_away m done why
+  refused_step : (why : Reason) → by_rows.outcome ≡ Err why → by_rows ≡ turned_away m done why
   refused_step why e = refuses (turned_away m done) (stepped_to done) rows why (first_held why e)
 
-  done_is : (answered : Values) → by_rows.outcome ≡ O.Accepted answered → (answered ≡ done.values) × (by_rows.machine ≡ done.machine)
+  done_is : (answered : Values) → by_rows.outcome ≡ Ok answered → (answered ≡ done.values) × (by_rows.machine ≡ done.machine)
   done_is answered e =
       let is = done_step answered e in
-      let outcome : O.Accepted answered ≡ O.Accepted done.values = sym e ∙ ap (λ (s : Stepped). s.outcome) is in
+      let outcome : Ok answered ≡ Ok done.values = sym e ∙ ap (λ (s : Stepped). s.outcome) is in
       (cc, ap (λ (s : Stepped). s.machine) is)
 
 -- nothing is touched but where a sum or window does not fit
@@ -92,14 +91,14 @@ module _ (m : Machine) (d : Decoded) where
   pub exactly : Exactly step_of m d
   unfolding step_of
   exactly = record {
-    refused = λ why. (first_held m (rows_of m d) (accepted_by m d) why, (λ first. outcome_is m (rows_of m d) (accepted_by m d) ∙ refuses O.Refused _ (rows_of m d) why first));
+    refused = λ why. (first_held m (rows_of m d) (accepted_by m d) why, (λ first. outcome_is m (rows_of m d) (accepted_by m d) ∙ refuses Err _ (rows_of m d) why first));
     accepted = (
       (λ e. none_held m (rows_of m d) (accepted_by m d) e.0 e.1),
-      (λ none. (_, outcome_is m (rows_of m d) (accepted_by m d) ∙ accepts O.Refused _ (rows_of m d) none)),
+      (λ none. (_, outcome_is m (rows_of m d) (accepted_by m d) ∙ accepts Err _ (rows_of m d) none)),
     );
   }
 
-  untouched : (why : Reason) → (step_of m d).outcome ≡ O.Refused why → (why ≡ Why.WontFit → ⊥) → (step_of m d).machine ≡ m
+  untouched : (why : Reason) → (step_of m d).outcome ≡ Err why → (why ≡ Why.WontFit → ⊥) → (step_of m d).machine ≡ m
   unfolding step_of
   untouched why e other = ap (λ (s : Stepped). s.machine) (refused_step m (rows_of m d) (accepted_by m d) why e) ∙ rw (untouched_why why other) refl
 
@@ -118,15 +117,15 @@ module _ (m : Machine) where
   unfoldable pub task_step : Task → Stepped
   task_step task = by_rows m (all_rows task) (done_by m task)
 
-  pub of_task : (r : Record) → step_of m (D.Accepted r) ≡ task_step (task_of r)
+  pub of_task : (r : Record) → step_of m (Ok r) ≡ task_step (task_of r)
   unfolding step_of record_rows accepted_by task_step
   of_task r = refl
 
-  pub task_done : (task : Task) (answered : Values) → (task_step task).outcome ≡ O.Accepted answered → (answered ≡ (done_by m task).values) × ((task_step task).machine ≡ (done_by m task).machine)
+  pub task_done : (task : Task) (answered : Values) → (task_step task).outcome ≡ Ok answered → (answered ≡ (done_by m task).values) × ((task_step task).machine ≡ (done_by m task).machine)
   unfolding task_step
   task_done task = done_is m (all_rows task) (done_by m task)
 
-  pub task_refused : (task : Task) (why : Reason) → (task_step task).outcome ≡ O.Refused why → task_step task ≡ turned_away m (done_by m task) why
+  pub task_refused : (task : Task) (why : Reason) → (task_step task).outcome ≡ Err why → task_step task ≡ turned_away m (done_by m task) why
   unfolding task_step
   task_refused task = refused_step m (all_rows task) (done_by m task)
 
@@ -136,7 +135,7 @@ module _ (m : Machine) where
     pub passed : Passed (core_of m) (asks task)
 
   -- what was accepted was touched, and so was a sum that did not fit
-  pub touches_accepted : (task : Task) (values : Values) → (task_step task).outcome ≡ O.Accepted values → Touches task
+  pub touches_accepted : (task : Task) (values : Values) → (task_step task).outcome ≡ Ok values → Touches task
   unfolding task_step
   touches_accepted task values e =
       let none = none_held m (all_rows task) (done_by m task) values e in
@@ -149,7 +148,7 @@ module _ (m : Machine) where
       let rest = before_sum (core_of m) (asks task) (last_rows m task) later.1 in
       (record { whole = later.0; passed = rest.0 }, rest.1)
 
-  pub touches_sum : (task : Task) → (task_step task).outcome ≡ O.Refused Why.WontFit → Touches task × FirstIs (last_rows m task) Why.WontFit
+  pub touches_sum : (task : Task) → (task_step task).outcome ≡ Err Why.WontFit → Touches task × FirstIs (last_rows m task) Why.WontFit
   unfolding task_step
   touches_sum task e = touched_sum task (first_held m (all_rows task) (done_by m task) Why.WontFit e)
 
@@ -200,22 +199,22 @@ module _ (m : Machine) where
   sum_of (T.Sample g (W.Operate op)) first = (g, op, refl)
   sum_of T.Announce first = absurd (no_sum (announce_of m.timer) first)
     where
-      no_sum : (x : Announced) → FirstIs (announce_rows x) Why.WontFit → ⊥
-      no_sum (A.Accepted a) first = first
-      no_sum (A.Refused why) (inl here) = clash (let e = here.1 in cc)
-      no_sum (A.Refused why) (inr later) = later.1
+      no_sum : (x : Result Announcement Refusal) → FirstIs (announce_rows x) Why.WontFit → ⊥
+      no_sum (Ok a) first = first
+      no_sum (Err why) (inl here) = clash (let e = here.1 in cc)
+      no_sum (Err why) (inr later) = later.1
   sum_of (T.Report i) first = absurd first
   sum_of (T.Setup s) first = absurd first
 
   -- what a refused sum leaves: the sample, which is accepted by itself, and the ledger
-  pub sum_kept : (g : Gaps) (op : Operation) → (task_step (T.Sample g (W.Operate op))).outcome ≡ O.Refused Why.WontFit → ((task_step (T.Sample g (W.Operate op))).machine ≡ with_timer m (sample_value m.timer g).timer) × (task_step (T.Sample g W.Tell) ≡ stepped_to (done_by m (T.Sample g W.Tell)))
+  pub sum_kept : (g : Gaps) (op : Operation) → (task_step (T.Sample g (W.Operate op))).outcome ≡ Err Why.WontFit → ((task_step (T.Sample g (W.Operate op))).machine ≡ with_timer m (sample_value m.timer g).timer) × (task_step (T.Sample g W.Tell) ≡ stepped_to (done_by m (T.Sample g W.Tell)))
   unfolding columns done_by last_rows
   sum_kept g op e = (
     ap (λ (s : Stepped). s.machine) (task_refused (T.Sample g (W.Operate op)) Why.WontFit e),
     done (T.Sample g W.Tell) refl (sample_touches g op (touches_sum (T.Sample g (W.Operate op)) e).0),
   )
 
-  kept_sample : (d : Decoded) (r : Record) (g : Gaps) → d ≡ D.Accepted r → Operates r g → (step_of m d).outcome ≡ O.Refused Why.WontFit → ((step_of m d).machine ≡ with_timer m (step_of m (D.Accepted (K.Sample g))).machine.timer) × (step_of m (D.Accepted (K.Sample g)) ≡ stepped_to (done_by m (T.Sample g W.Tell)))
+  kept_sample : (d : Decoded) (r : Record) (g : Gaps) → d ≡ Ok r → Operates r g → (step_of m d).outcome ≡ Err Why.WontFit → ((step_of m d).machine ≡ with_timer m (step_of m (Ok (K.Sample g))).machine.timer) × (step_of m (Ok (K.Sample g)) ≡ stepped_to (done_by m (T.Sample g W.Tell)))
   unfolding task_of done_by
   kept_sample d r g ed o e =
       let task = of_task r ∙ ap task_step o.1 in
@@ -223,18 +222,18 @@ module _ (m : Machine) where
       let sample = of_task (K.Sample g) ∙ kept.1 in
       (rw (ed, task, sample) kept.0, sample)
 
-  only_operations : (d : Decoded) → (step_of m d).outcome ≡ O.Refused Why.WontFit → (r : Record) × (g : Gaps) × (d ≡ D.Accepted r) × Operates r g
+  only_operations : (d : Decoded) → (step_of m d).outcome ≡ Err Why.WontFit → (r : Record) × (g : Gaps) × (d ≡ Ok r) × Operates r g
   unfolding record_rows
-  only_operations (D.Accepted r) e =
+  only_operations (Ok r) e =
       let found = sum_of (task_of r) (touches_sum (task_of r) (rw (of_task r) at e)).1 in
       (r, found.0, refl, (found.1, found.2))
-  only_operations (D.Refused why) e = absurd (no_row (((exactly m (D.Refused why)).refused Why.WontFit).0 e))
+  only_operations (Err why) e = absurd (no_row (((exactly m (Err why)).refused Why.WontFit).0 e))
     where
-      at_record : FirstIs (record_rows m (D.Refused why)) Why.WontFit → ⊥
+      at_record : FirstIs (record_rows m (Err why)) Why.WontFit → ⊥
       at_record (inl here) = clash (let e = here.1 in cc)
       at_record (inr later) = later.1
 
-      no_row : FirstIs (rows_of m (D.Refused why)) Why.WontFit → ⊥
+      no_row : FirstIs (rows_of m (Err why)) Why.WontFit → ⊥
       no_row (inl here) = clash (let e = here.1 in cc)
       no_row (inr later) = at_record later.1
 

@@ -1,4 +1,5 @@
 -- No record, accepted or refused, makes a state malformed that was not.
+use Rattle.std.specs.Prelude.{Result, Ok, Err}
 use Prim.Native.Nat.{ℕ}
 use mathlib.Core.Path.{◌≡◌, refl}
 use mathlib.Core.Bool.{Bool, true, false, cond, not, ◌&&◌}
@@ -7,26 +8,19 @@ use lib.Dec.{eqb}
 use Rattle.error.proofs.Ordered.{by_outcome}
 use Rattle.usage.specs.declared.ThreadUsage.{ThreadUsage}
 use Rattle.usage.specs.Formulas.{new_idle}
-use Rattle.clock.specs.declared.Announced.{Announced}
 use Rattle.clock.specs.Timer.{setup, well_formed, GoodSetup}
-use Rattle.clock.specs.declared.Announced.TheVariants as A
 use Rattle.clock.specs.declared.Timer.{Timer}
 use Rattle.clock.specs.Announce.{announce_of}
-use Rattle.ledger.specs.declared.Reported.{Reported}
-use Rattle.ledger.specs.declared.Reported.TheVariants as R
 use Rattle.ledger.specs.Operate.{stored_in}
 use Rattle.books.specs.declared.Books.{Books}
 use Rattle.books.specs.declared.Entry.{Entry}
-use Rattle.books.specs.declared.Entered.{Entered}
-use Rattle.books.specs.declared.Entered.TheVariants as E
 use Rattle.books.specs.declared.Operation.{Operation}
 use Rattle.books.specs.declared.Operation.TheVariants as P
 use Rattle.books.specs.Running.{stopped, is_running, no_thread, unrecorded, past}
 use Rattle.books.specs.Laws.{closes, stamp_after, running_after, EntryIs}
 use Rattle.books.proofs.Entering.{entry_is}
 use Rattle.trace.specs.declared.Setup.{Setup}
-use Rattle.trace.specs.declared.Decoded.{Decoded}
-use Rattle.trace.specs.declared.Decoded.TheVariants as D
+use Rattle.trace.specs.Decode.{Decoded}
 use Rattle.table.specs.declared.Core.{Core}
 use Rattle.table.specs.declared.Reason.{Reason}
 use Rattle.table.specs.declared.Reason.TheVariants as Why
@@ -46,6 +40,9 @@ use Rattle.machine.proofs.Passed.{Passed, passed}
 use Rattle.machine.proofs.Accepting.{formed_of, recorded_of, announcement_is, Accepts, let_through}
 use Rattle.machine.specs.Laws.{Whole}
 use Rattle.machine.proofs.WholeClock.{run_formed, sample_formed, announcement_formed, setup_formed}
+use Rattle.clock.specs.declared.Announcement.{Announcement}
+use Rattle.error.specs.declared.Refusal.{Refusal}
+use Rattle.ledger.specs.declared.ThreadReport.{ThreadReport}
 
 -- a well_formed_lem timer, and a record for the thread that runs
 whole_of : (c : Core) (slots : ℕ) → well_formed c.timer ≡ true → unrecorded c.books slots ≡ false → malformed c slots ≡ false
@@ -84,31 +81,31 @@ module _ (m : Machine) (whole : Whole m) where
   slots = slots_of m
 
   -- what a change leaves, made
-  abbrev Leaves : Change → Type 0
+  abbrev Leaves : Result Change Reason → Type 0
   Leaves x = Whole (made_of m x).machine
 
-  turned_leaves : (why : Reason) → Leaves (X.Refused why)
+  turned_leaves : (why : Reason) → Leaves (Err why)
   unfolding made_of
   turned_leaves why = whole
 
-  announced_leaves : well_formed m.timer ≡ true → unrecorded m.ledger.books slots ≡ false → (x : Announced) → announce_of m.timer ≡ x → Leaves (announced_change x)
+  announced_leaves : well_formed m.timer ≡ true → unrecorded m.ledger.books slots ≡ false → (x : Result Announcement Refusal) → announce_of m.timer ≡ x → Leaves (announced_change x)
   unfolding announced_change made_of
-  announced_leaves formed recorded (A.Accepted a) q = whole_of _ slots (rw (announcement_is m.timer a q) (announcement_formed m.timer formed)) recorded
-  announced_leaves formed recorded (A.Refused why) q = whole
+  announced_leaves formed recorded (Ok a) q = whole_of _ slots (rw (announcement_is m.timer a q) (announcement_formed m.timer formed)) recorded
+  announced_leaves formed recorded (Err why) q = whole
 
   -- the sample's timer, and the books as the entry leaves them or, refused, as they were
-  entered_leaves : (timer : Timer) (k : ℕ) (x : Entered) → well_formed timer ≡ true → unrecorded m.ledger.books slots ≡ false → ((e : Entry) → x ≡ E.Accepted e → unrecorded e.books slots ≡ false) → Whole (entered_by m timer (stored_in m.ledger k x)).machine
+  entered_leaves : (timer : Timer) (k : ℕ) (x : Result Entry Refusal) → well_formed timer ≡ true → unrecorded m.ledger.books slots ≡ false → ((e : Entry) → x ≡ Ok e → unrecorded e.books slots ≡ false) → Whole (entered_by m timer (stored_in m.ledger k x)).machine
   unfolding stored_in
-  entered_leaves timer k (E.Accepted e) formed recorded entry = rw (length-set m.ledger.threads k e.usage) (whole_of _ slots formed (entry e refl))
-  entered_leaves timer k (E.Refused why) formed recorded entry = whole_of _ slots formed recorded
+  entered_leaves timer k (Ok e) formed recorded entry = rw (length-set m.ledger.threads k e.usage) (whole_of _ slots formed (entry e refl))
+  entered_leaves timer k (Err why) formed recorded entry = whole_of _ slots formed recorded
 
-  reported_leaves : (x : Reported) → Whole (reported_by m x).machine
+  reported_leaves : (x : Result ThreadReport Refusal) → Whole (reported_by m x).machine
   unfolding reported_by
-  reported_leaves (R.Accepted report) = whole
-  reported_leaves (R.Refused why) = whole
+  reported_leaves (Ok report) = whole
+  reported_leaves (Err why) = whole
 
   -- a good setup makes a good timer, and nobody runs
-  setup_leaves : (s : Setup) → GoodSetup s.period s.tick → Leaves (X.Fresh (setup s.period s.tick))
+  setup_leaves : (s : Setup) → GoodSetup s.period s.tick → Leaves (Ok (X.Fresh (setup s.period s.tick)))
   unfolding made_of unrecorded
   setup_leaves s good = rw (length-replicate slots new_idle) (whole_of _ slots (setup_formed s.period s.tick good) refl)
 
@@ -131,8 +128,8 @@ module _ (m : Machine) (whole : Whole m) where
 
   record_leaves : (d : Decoded) → Leaves (record_change c slots d)
   unfolding record_change task_change
-  record_leaves (D.Accepted r) = by_outcome X.Refused _ Leaves (table c (asked_by m.ledger.books slots (task_of r))) turned_leaves (λ none. let p = passed c _ none in effect_leaves (task_of r) (let_through c slots whole (task_of r) p) p)
-  record_leaves (D.Refused why) = turned_leaves Why.BadRecord
+  record_leaves (Ok r) = by_outcome Err _ Leaves (table c (asked_by m.ledger.books slots (task_of r))) turned_leaves (λ none. let p = passed c _ none in effect_leaves (task_of r) (let_through c slots whole (task_of r) p) p)
+  record_leaves (Err why) = turned_leaves Why.BadRecord
 
 pub stays_whole : (m : Machine) (d : Decoded) → Whole m → Whole (step_of m d).machine
 unfolding change_of

@@ -8,7 +8,7 @@ use lib.Dec.{leb}
 use Rattle.counter.specs.Cycle.{run_n}
 use Rattle.counter.specs.Readings.{in_range}
 use Rattle.counter.proofs.Outcomes.{both, in_range_of}
-use Rattle.clock.specs.declared.Gaps.{Gaps}
+use Rattle.counter.specs.declared.Gaps.{Gaps}
 use Rattle.clock.specs.declared.Timer.{Timer}
 use Rattle.clock.specs.Timer.{well_formed, setup, GoodSetup}
 use Rattle.clock.specs.Sample.{sample_value}

@@ -1,29 +1,23 @@
 -- Evidence: 01's table on machines handed in. Each row at its boundary and one past it, where two rows hold the first of them, and what each kind does with its numbers.
-use Rattle.std.specs.Prelude.{◌-◌, ℕ, ◌+◌, ◌≡◌, Bool, true, false, [], ◌∷◌}
+use Rattle.std.specs.Prelude.{◌-◌, ℕ, ◌+◌, ◌≡◌, Bool, true, false, [], ◌∷◌, Ok, Err}
 use Rattle.error.specs.declared.Refusal.TheVariants.{Invalid, BadThread, Again, Already, Overflow}
 use Rattle.error.specs.Numbers.{max32, max64}
 use Rattle.usage.specs.declared.ThreadUsage.{ThreadUsage}
 use Rattle.usage.specs.Formulas.{new_idle}
 use Rattle.counter.specs.declared.Counter.{Counter}
-use Rattle.clock.specs.declared.Gaps.{Gaps}
+use Rattle.counter.specs.declared.Gaps.{Gaps}
 use Rattle.clock.specs.declared.Clock.{Clock}
-use Rattle.clock.specs.declared.Sampled.TheVariants as S
-use Rattle.clock.specs.declared.Announced.TheVariants as A
 use Rattle.clock.specs.Announce.{announce_of}
 use Rattle.clock.specs.Entries.{gaps, sample_of}
 use Rattle.books.specs.declared.Books.{Books}
 use Rattle.books.specs.declared.Operation.TheVariants as P
 use Rattle.books.specs.Running.{nothing_booked}
 use Rattle.ledger.specs.declared.Ledger.{Ledger}
-use Rattle.ledger.specs.declared.Answer.TheVariants as N
-use Rattle.ledger.specs.declared.Reported.TheVariants as R
 use Rattle.ledger.specs.Operate.{operate_of, report_of}
 use Rattle.trace.specs.declared.Record.{Record}
 use Rattle.trace.specs.declared.Record.TheVariants as K
-use Rattle.trace.specs.declared.Decoded.TheVariants as D
 use Rattle.table.specs.declared.Reason.{Reason}
 use Rattle.table.specs.declared.Reason.TheVariants as Why
-use Rattle.table.specs.declared.Outcome.TheVariants as O
 use Rattle.table.specs.Says.{values}
 use Rattle.machine.specs.declared.Machine.{Machine}
 use Rattle.machine.specs.Step.{step_of}
@@ -83,23 +77,23 @@ lost = record { books = books 1 2 0; threads = new_idle ∷ new_idle ∷ [] }
 
 -- accepted with x and y
 abbrev pub Takes : Machine → Record → ℕ → ℕ → Type 0
-Takes m r x y = (step_of m (D.Accepted r)).outcome ≡ O.Accepted (values x y)
+Takes m r x y = (step_of m (Ok r)).outcome ≡ Ok (values x y)
 
 -- turned away, and the whole machine is as it was
 abbrev pub Turns : Machine → Record → Reason → Type 0
-Turns m r why = step_of m (D.Accepted r) ≡ record { outcome = O.Refused why; machine = m }
+Turns m r why = step_of m (Ok r) ≡ record { outcome = Err why; machine = m }
 
 -- turned away for a sum or a window: the ledger is as it was, counter and clock as a sample of the same gaps leaves them
 pub record KeepsSample (m : Machine) (r : Record) (g : Gaps) : Type 0 where
-  pub turned : (step_of m (D.Accepted r)).outcome ≡ O.Refused Why.WontFit
-  pub timer : (step_of m (D.Accepted r)).machine.timer ≡ (step_of m (D.Accepted (K.Sample g))).machine.timer
-  pub ledger : (step_of m (D.Accepted r)).machine.ledger ≡ m.ledger
+  pub turned : (step_of m (Ok r)).outcome ≡ Err Why.WontFit
+  pub timer : (step_of m (Ok r)).machine.timer ≡ (step_of m (Ok (K.Sample g))).machine.timer
+  pub ledger : (step_of m (Ok r)).machine.ledger ≡ m.ledger
 
 -- counter and clock afterwards are those of a sample with the same gaps, which tell every order of p, q and r apart
 abbrev pub AsSample : (Gaps → Record) → Type 0
 AsSample kind =
-    (step_of (timed (counter 10 10 false 100) (clock 4 0 0 0)) (D.Accepted (kind (gaps 0 10 3)))).machine.timer ≡
-    (step_of (timed (counter 10 10 false 100) (clock 4 0 0 0)) (D.Accepted (K.Sample (gaps 0 10 3)))).machine.timer
+    (step_of (timed (counter 10 10 false 100) (clock 4 0 0 0)) (Ok (kind (gaps 0 10 3)))).machine.timer ≡
+    (step_of (timed (counter 10 10 false 100) (clock 4 0 0 0)) (Ok (K.Sample (gaps 0 10 3)))).machine.timer
 
 pub record TableShown : Type 0 where
   -- T may be 2^64 - 1, and may not pass it: by a run, and by the three gaps of a sample
@@ -107,7 +101,7 @@ pub record TableShown : Type 0 where
   pub cycles_above_lem : Turns (timed (counter 10 10 false (max64 - 5)) (clock 4 0 0 0)) (K.Run 6) Why.CyclesAbove
   pub gaps_fit : Takes (timed (counter 10 10 false (max64 - 5)) (clock 4 0 0 0)) (K.Sample (gaps 2 2 1)) 4 0
   pub gaps_above : Turns (timed (counter 10 10 false (max64 - 5)) (clock 4 0 0 0)) (K.Sample (gaps 2 2 2)) Why.CyclesAbove
-  pub cycles_full : (step_of (timed (counter 10 10 false (max64 - 5)) (clock 4 0 0 0)) (D.Accepted (K.Run 5))).machine.timer.counter ≡ counter 10 5 false max64
+  pub cycles_full : (step_of (timed (counter 10 10 false (max64 - 5)) (clock 4 0 0 0)) (Ok (K.Run 5))).machine.timer.counter ≡ counter 10 5 false max64
   -- overflow + 2L - 1 may be 2^32 - 1; -11 comes ahead of T's test, and an announcement is not asked for it
   pub overflow_fits : Takes (timed (counter 10 10 false max64) (clock 4 0 0 (max32 - 19))) (K.Sample at_once) (max32 - 19) 0
   pub announce_first : Turns (timed (counter 10 10 false max64) (clock 4 0 0 (max32 - 18))) (K.Sample (gaps 1 0 0)) Why.AnnounceFirst
@@ -121,7 +115,7 @@ pub record TableShown : Type 0 where
   pub one_wrap_more : Turns (timed (counter 16777215 16777215 false max64) (clock 4 0 0 4278189825)) (K.Sample at_once) Why.AnnounceFirst
   -- the machine total, and the thread's own if it is tracked
   pub sum_fits : Takes (running 4 (max64 - 3) new_idle) (K.Stop at_once) 3 0
-  pub sum_full : (step_of (running 4 (max64 - 3) new_idle) (D.Accepted (K.Stop at_once))).machine.ledger.books ≡ books 0 0 max64
+  pub sum_full : (step_of (running 4 (max64 - 3) new_idle) (Ok (K.Stop at_once))).machine.ledger.books ≡ books 0 0 max64
   pub sum_above : KeepsSample (running 5 (max64 - 3) new_idle) (K.Stop at_once) at_once
   pub own_fits : Takes (running 4 0 (thread true (max64 - 3) 1)) (K.Stop at_once) 3 0
   pub own_above : KeepsSample (running 5 0 (thread true (max64 - 3) 1)) (K.Stop at_once) at_once
@@ -131,12 +125,12 @@ pub record TableShown : Type 0 where
   -- windows: the last that fits, one more, and none needed
   pub window_fits : Takes (timed (counter 10 10 false 100) (clock 4 0 0 0)) (K.Enable 0 at_once) 0 0
   pub last_window : Takes (handed true (counter 10 10 false 100) (clock 4 0 0 0) nothing_booked (thread false 7 (max32 - 1))) (K.Enable 0 at_once) 0 0
-  pub windows_full : (step_of (handed true (counter 10 10 false 100) (clock 4 0 0 0) nothing_booked (thread false 7 (max32 - 1))) (D.Accepted (K.Enable 0 at_once))).machine.ledger.threads ≡ thread true 7 max32 ∷ new_idle ∷ []
+  pub windows_full : (step_of (handed true (counter 10 10 false 100) (clock 4 0 0 0) nothing_booked (thread false 7 (max32 - 1))) (Ok (K.Enable 0 at_once))).machine.ledger.threads ≡ thread true 7 max32 ∷ new_idle ∷ []
   pub window_above : KeepsSample (handed true (counter 10 10 false 100) (clock 4 0 0 0) nothing_booked (thread false 7 max32)) (K.Enable 0 at_once) at_once
   pub tracked_already : Takes (handed true (counter 10 10 false 100) (clock 4 0 0 0) nothing_booked (thread true 7 max32)) (K.Enable 0 at_once) 0 0
   -- a flag that is as wanted closes nothing, and leaves the ledger as it was
-  pub enable_as_wanted : (step_of (running 5 0 (thread true 7 1)) (D.Accepted (K.Enable 0 at_once))).machine.ledger ≡ (running 5 0 (thread true 7 1)).ledger
-  pub disable_as_wanted : (step_of (running 5 0 new_idle) (D.Accepted (K.Disable 0 at_once))).machine.ledger ≡ (running 5 0 new_idle).ledger
+  pub enable_as_wanted : (step_of (running 5 0 (thread true 7 1)) (Ok (K.Enable 0 at_once))).machine.ledger ≡ (running 5 0 (thread true 7 1)).ledger
+  pub disable_as_wanted : (step_of (running 5 0 new_idle) (Ok (K.Disable 0 at_once))).machine.ledger ≡ (running 5 0 new_idle).ledger
   -- what announce's leaf refuses: announced above the new count, too many ticks
   pub announced_all : Takes (timed (counter 10 10 false 100) (clock 4 20 30 10)) K.Announce 0 30
   pub announced_more : Turns (timed (counter 10 10 false 100) (clock 4 20 31 10)) K.Announce (Why.NotAnnounced Invalid)
@@ -166,7 +160,7 @@ pub record TableShown : Type 0 where
   pub first_of_all : Turns (timed (counter 1 1 false 0) (clock 1 0 0 0)) (K.Setup (record { period = 10; tick = 4 })) Why.Malformed
   pub not_tested : Turns (handed false (counter 1 1 false 0) (clock 1 0 0 0) nothing_booked new_idle) (K.Run 0) Why.NotSetUp
   -- where two rows hold, the first of them
-  pub bad_record_first : (step_of (handed false (counter 1 1 false 0) (clock 1 0 0 0) nothing_booked new_idle) (D.Refused Invalid)).outcome ≡ O.Refused Why.BadRecord
+  pub bad_record_first : (step_of (handed false (counter 1 1 false 0) (clock 1 0 0 0) nothing_booked new_idle) (Err Invalid)).outcome ≡ Err Why.BadRecord
   pub not_set_up_first : Turns (handed false (counter 1 1 false 0) (clock 1 0 0 0) nothing_booked new_idle) (K.Report 2) Why.NotSetUp
   pub no_thread_first : Turns (running 0 0 new_idle) (K.Start 2 at_once) Why.NoThread
   pub running_first : Turns (handed true (counter 10 10 false max64) (clock 4 0 0 (max32 - 18)) (books 1 0 0) new_idle) (K.Start 0 at_once) Why.Running
@@ -188,7 +182,7 @@ pub record TableShown : Type 0 where
   pub enable_gaps : AsSample (K.Enable 1)
   pub disable_gaps : AsSample (K.Disable 1)
   -- setup writes every field, whatever was there
-  pub all_written : step_of unready (D.Accepted (K.Setup (record { period = 10; tick = 4 }))) ≡ record { outcome = O.Accepted (values 0 0); machine = just_set_up }
+  pub all_written : step_of unready (Ok (K.Setup (record { period = 10; tick = 4 }))) ≡ record { outcome = Ok (values 0 0); machine = just_set_up }
   pub least_setup : Takes unready (K.Setup (record { period = 2; tick = 1 })) 0 0
   pub most_setup : Takes unready (K.Setup (record { period = 16777215; tick = max32 })) 0 0
   -- a setup that no bytes decode to is turned away by the first row, on a machine that is set up too
@@ -196,10 +190,10 @@ pub record TableShown : Type 0 where
   pub short_setup : Turns unready (K.Setup (record { period = 1; tick = 4 })) Why.BadRecord
   pub long_setup : Turns unready (K.Setup (record { period = 16777216; tick = 4 })) Why.BadRecord
   -- the entries below make these tests by themselves, in the same order, for whoever calls them: a malformed state first
-  pub operate_malformed : (operate_of lost (record { 0 = 0 }) (P.Start 2)).answer ≡ N.Refused Invalid
-  pub report_malformed : report_of lost 2 ≡ R.Refused Invalid
-  pub announce_malformed : announce_of (record { counter = counter 10 0 false max64; clock = clock 1 (max32 + 31) 30 0 }) ≡ A.Refused Invalid
-  pub report_unknown : report_of (running 0 0 new_idle).ledger 2 ≡ R.Refused BadThread
-  pub sample_crowded : sample_of (timed (counter 10 10 false max64) (clock 4 0 0 (max32 - 18))).timer (gaps 1 0 0) ≡ S.Refused Again
-  pub operate_past : (operate_of (running 0 0 new_idle).ledger (record { 0 = 0 }) (P.Start 2)).answer ≡ N.Refused BadThread
-  pub operate_running : (operate_of (running 0 0 new_idle).ledger (record { 0 = 0 }) (P.Start 1)).answer ≡ N.Refused Already
+  pub operate_malformed : (operate_of lost (record { 0 = 0 }) (P.Start 2)).answer ≡ Err Invalid
+  pub report_malformed : report_of lost 2 ≡ Err Invalid
+  pub announce_malformed : announce_of (record { counter = counter 10 0 false max64; clock = clock 1 (max32 + 31) 30 0 }) ≡ Err Invalid
+  pub report_unknown : report_of (running 0 0 new_idle).ledger 2 ≡ Err BadThread
+  pub sample_crowded : sample_of (timed (counter 10 10 false max64) (clock 4 0 0 (max32 - 18))).timer (gaps 1 0 0) ≡ Err Again
+  pub operate_past : (operate_of (running 0 0 new_idle).ledger (record { 0 = 0 }) (P.Start 2)).answer ≡ Err BadThread
+  pub operate_running : (operate_of (running 0 0 new_idle).ledger (record { 0 = 0 }) (P.Start 1)).answer ≡ Err Already

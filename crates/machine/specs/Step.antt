@@ -1,14 +1,13 @@
 -- Believed: 01's machine. A record's step is 01's table: its rows in order, what a refusal leaves, and what an accepted record answers and leaves.
-use Rattle.std.specs.Prelude.{ℕ, true, false, cond, List, [], ◌∷◌, ◌++◌, length}
+use Rattle.std.specs.Prelude.{ℕ, true, false, cond, List, [], ◌∷◌, ◌++◌, length, Result, Ok, Err}
 use Rattle.error.specs.InOrder.{Row, in_order}
 use Rattle.counter.specs.Cycle.{run_n}
-use Rattle.clock.specs.declared.Gaps.{Gaps}
+use Rattle.counter.specs.declared.Gaps.{Gaps}
 use Rattle.clock.specs.declared.Timer.{Timer}
-use Rattle.clock.specs.declared.Announced.{Announced}
-use Rattle.clock.specs.declared.Announced.TheVariants as A
 use Rattle.clock.specs.Timer.{setup}
 use Rattle.clock.specs.Sample.{reading_of, sample_value}
 use Rattle.clock.specs.Announce.{announcement, announce_of}
+use Rattle.usage.specs.declared.ThreadUsage.{ThreadUsage}
 use Rattle.books.specs.declared.Operation.{Operation}
 use Rattle.books.specs.Running.{stamp_of}
 use Rattle.books.specs.Laws.{full}
@@ -16,13 +15,11 @@ use Rattle.ledger.specs.declared.Ledgered.{Ledgered}
 use Rattle.ledger.specs.declared.ThreadReport.{ThreadReport}
 use Rattle.ledger.specs.Operate.{operate_of}
 use Rattle.ledger.specs.Records.{fresh_ledger, thread_record, concerned_record, report_value, answer_says}
-use Rattle.trace.specs.declared.Decoded.{Decoded}
-use Rattle.trace.specs.declared.Decoded.TheVariants as D
+use Rattle.trace.specs.Decode.{Decoded}
 use Rattle.table.specs.declared.Core.{Core}
 use Rattle.table.specs.declared.Reason.{Reason}
 use Rattle.table.specs.declared.Reason.TheVariants as Why
 use Rattle.table.specs.declared.Values.{Values}
-use Rattle.table.specs.declared.Outcome.TheVariants as O
 use Rattle.table.specs.declared.tasks.Task.{Task}
 use Rattle.table.specs.declared.tasks.Task.TheVariants as T
 use Rattle.table.specs.declared.tasks.Then.TheVariants as W
@@ -31,17 +28,22 @@ use Rattle.table.specs.Table.{malformed, table, after_touch}
 use Rattle.table.specs.Says.{values, sample_tells, announcement_tells}
 use Rattle.machine.specs.declared.Machine.{Machine}
 use Rattle.machine.specs.declared.Stepped.{Stepped}
+use Rattle.clock.specs.declared.Announcement.{Announcement}
+use Rattle.error.specs.declared.Refusal.{Refusal}
 
 abbrev pub core_of : Machine → Core
 core_of m = record { ready = m.ready; timer = m.timer; books = m.ledger.books }
+
+abbrev pub machine_of : Core → List ThreadUsage → Machine
+machine_of c threads = record { ready = c.ready; timer = c.timer; ledger = record { books = c.books; threads = threads } }
 
 abbrev pub slots_of : Machine → ℕ
 slots_of m = length m.ledger.threads
 
 -- announce refused: the leaf's
-unfoldable pub announce_rows : Announced → List (Row Reason)
-announce_rows (A.Accepted a) = []
-announce_rows (A.Refused why) = (true, Why.NotAnnounced why) ∷ []
+unfoldable pub announce_rows : Result Announcement Refusal → List (Row Reason)
+announce_rows (Ok a) = []
+announce_rows (Err why) = (true, Why.NotAnnounced why) ∷ []
 
 -- sum or window count won't fit
 abbrev pub full_row : Machine → Operation → Gaps → Row Reason
@@ -61,8 +63,8 @@ abbrev pub task_rows : Machine → Task → List (Row Reason)
 task_rows m task = table (core_of m) (asked_by m.ledger.books (slots_of m) task) ++ last_rows m task
 
 unfoldable pub record_rows : Machine → Decoded → List (Row Reason)
-record_rows m (D.Accepted r) = task_rows m (task_of r)
-record_rows m (D.Refused why) = (true, Why.BadRecord) ∷ []
+record_rows m (Ok r) = task_rows m (task_of r)
+record_rows m (Err why) = (true, Why.BadRecord) ∷ []
 
 -- and the malformed state before it
 abbrev pub rows_of : Machine → Decoded → List (Row Reason)
@@ -98,14 +100,14 @@ done_by m (T.Setup s) = answers (values 0 0) (record { ready = true; timer = set
 
 -- of bytes that are no record nothing, since none passes the table
 unfoldable pub accepted_by : Machine → Decoded → Done
-accepted_by m (D.Accepted r) = done_by m (task_of r)
-accepted_by m (D.Refused why) = answers (values 0 0) m
+accepted_by m (Ok r) = done_by m (task_of r)
+accepted_by m (Err why) = answers (values 0 0) m
 
 abbrev pub stepped_to : Done → Stepped
-stepped_to done = record { outcome = O.Accepted done.values; machine = done.machine }
+stepped_to done = record { outcome = Ok done.values; machine = done.machine }
 
 abbrev pub turned_away : Machine → Done → Reason → Stepped
-turned_away m done why = record { outcome = O.Refused why; machine = cond (after_touch why) (with_timer m done.machine.timer) m }
+turned_away m done why = record { outcome = Err why; machine = cond (after_touch why) (with_timer m done.machine.timer) m }
 
 -- 01's table: the first row that holds turns the record away, and where none does it is accepted
 unfoldable pub step_of : Machine → Decoded → Stepped

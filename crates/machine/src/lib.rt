@@ -2,21 +2,23 @@
 #![tactic(auto)]
 
 ghost use Rattle.std.specs.Prelude.{◌≡◌};
-ghost use Rattle.machine.specs.Step.{core_of, with_timer, report_tells, step_of, fresh_machine};
-ghost use Rattle.table.specs.declared.Outcome.TheVariants as O;
+ghost use Rattle.machine.specs.Step.{core_of, machine_of, report_tells, step_of, fresh_machine};
+ghost use Rattle.machine.specs.Making.{made_of};
 
 use clock::{Clock, Timer};
 use counter::Counter;
-use ledger::{Answer, Ledger, Reported, ThreadReport};
+use error::Refusal;
+use ledger::{Ledger, ThreadReport};
 use table::changes::{Change, change_of};
-use table::{Core, Outcome, Reason, Values};
-use trace::Decoded;
+use table::{Core, Reason, Values};
+use trace::Record;
 use units::Cycles;
 use usage::ThreadUsage;
 
 #[derive(Clone, Copy)]
 pub struct Machine {
-    // Whether it is set up; until then nothing else is looked at.
+    // Whether it is set up; until then nothing else is looked at, and all of it is given back as it came (`step_of`), so
+    // that it is no `Option` of the rest.
     pub ready: bool,
     pub timer: Timer,
     pub ledger: Ledger,
@@ -24,7 +26,7 @@ pub struct Machine {
 
 #[derive(Clone, Copy)]
 pub struct Stepped {
-    pub outcome: Outcome,
+    pub outcome: Result<Values, Reason>,
     pub machine: Machine,
 }
 
@@ -32,113 +34,97 @@ impl Machine {
     pub fn core(self) -> Core
         ensures { result ≡ core_of self }
     {
-        let timer = self.timer;
-        let books = self.ledger.books;
         Core {
             ready: self.ready,
-            timer: timer,
-            books: books,
+            timer: self.timer,
+            books: self.ledger.books,
+        }
+    }
+
+    // A machine of these parts.
+    pub fn of(core: Core, threads: [ThreadUsage; ThreadUsage::SLOTS]) -> Machine
+        ensures { result ≡ machine_of core threads }
+    {
+        Machine {
+            ready: core.ready,
+            timer: core.timer,
+            ledger: Ledger {
+                books: core.books,
+                threads,
+            },
         }
     }
 }
 
-fn accepted(machine: Machine, values: Values) -> Stepped
-    ensures { result ≡ record { outcome = O.Accepted values; machine = machine } }
+// A record's change, made in place to a machine whose parts are lent: what is not new stays as it is, and a refusal
+// leaves all of it, but for a sample, which is kept whatever the ledger answers. The parts are lent one by one, so that
+// the core can stay in registers from record to record.
+#[tactic(auto, unfolding(crate::specs::Making::made_of, crate::specs::Making::operation_tells, crate::specs::Making::reported_by))]
+pub fn make(
+    core: &mut Core,
+    threads: &mut [ThreadUsage; ThreadUsage::SLOTS],
+    change: Result<Change, Reason>,
+) -> Result<Values, Reason>
+    ensures { record { outcome = result; machine = machine_of core.new threads.new } ≡ made_of (machine_of core.old threads.old) change }
 {
-    Stepped {
-        outcome: Outcome::Accepted(values),
-        machine: machine,
+    match change? {
+        Change::Ran(counter) => {
+            // Field by field: with a copy of the whole, a record of a long trace takes 6 instructions more of 194.
+            core.timer.counter = Counter { ..counter };
+            Ok(Values { x: 0, y: 0 })
+        }
+        Change::Told(timer, values) => {
+            core.timer = timer;
+            Ok(values)
+        }
+        Change::Enter(timer, operation, reading) => {
+            core.timer = timer;
+            let answer = ledger::operate_on(&mut core.books, threads, reading, operation);
+            let cycles = answer.map_err(|_| Reason::WontFit)?;
+            Ok(Values {
+                x: cycles as u64,
+                y: 0,
+            })
+        }
+        Change::Report(thread) => {
+            let report = ledger::report_from(&core.books, threads, thread);
+            Ok(report_values(report.map_err(|_| Reason::Malformed)?))
+        }
+        Change::Fresh(timer) => {
+            *core = Core {
+                ready: true,
+                timer,
+                books: books::nothing_booked(),
+            };
+            threads.fill(ThreadUsage::new_idle());
+            Ok(Values { x: 0, y: 0 })
+        }
     }
-}
-
-fn turned_away(machine: Machine, why: Reason) -> Stepped
-    ensures { result ≡ record { outcome = O.Refused why; machine = machine } }
-{
-    Stepped {
-        outcome: Outcome::Refused(why),
-        machine: machine,
-    }
-}
-
-fn with_timer(machine: Machine, timer: Timer) -> Machine
-    ensures { result ≡ with_timer machine timer }
-{
-    let mut after = machine;
-    after.timer = timer;
-    after
-}
-
-fn with_ledger(machine: Machine, ledger: Ledger) -> Machine
-    ensures { result ≡ record { ready = machine.ready; timer = machine.timer; ledger = ledger } }
-{
-    let mut after = machine;
-    after.ledger = ledger;
-    after
 }
 
 // What a report's line tells: total, average.
 pub fn report_values(report: ThreadReport) -> Values
     ensures { result ≡ report_tells report }
 {
-    let total = report.total;
-    let average = report.average;
     Values {
-        x: total.0,
-        y: average.0,
+        x: report.total.0,
+        y: report.average.0,
     }
 }
 
 // One record's step, the machine by value: what the record changes, worked out before anything is touched, and then the
 // change made.
-#[tactic(auto, unfolding(crate::specs::Step::step_of))]
-pub fn step(machine: Machine, decoded: Decoded) -> Stepped
+#[tactic(auto, using(crate::proofs::Tying::step_worked_out))]
+pub fn step(machine: Machine, decoded: Result<Record, Refusal>) -> Stepped
     ensures { result ≡ step_of machine decoded }
 {
-    let core = machine.core();
-    let ledger = machine.ledger;
-    let clock = machine.timer.clock;
-    let nothing = Values { x: 0, y: 0 };
+    let mut core = machine.core();
+    let mut threads = machine.ledger.threads;
     let change = change_of(core, ThreadUsage::SLOTS, decoded);
-    match change {
-        Change::Refused(why) => turned_away(machine, why),
-        Change::Ran(counter) => accepted(
-            with_timer(
-                machine,
-                Timer {
-                    counter: counter,
-                    clock: clock,
-                },
-            ),
-            nothing,
-        ),
-        Change::Told(timer, values) => accepted(with_timer(machine, timer), values),
-        Change::Enter(timer, operation, reading) => {
-            let ledgered = ledger::operate(ledger, reading, operation);
-            let answer = ledgered.answer;
-            let booked = ledgered.ledger;
-            // The sample is kept, whatever the ledger answers.
-            let after = with_ledger(with_timer(machine, timer), booked);
-            match answer {
-                Answer::Accepted(cycles) => {
-                    let closed = cycles as u64;
-                    accepted(after, Values { x: closed, y: 0 })
-                }
-                Answer::Refused(_) => turned_away(after, Reason::WontFit),
-            }
-        }
-        Change::Report(thread) => match ledger::report(ledger, thread) {
-            Reported::Accepted(report) => accepted(machine, report_values(report)),
-            Reported::Refused(_) => turned_away(machine, Reason::Malformed),
-        },
-        Change::Fresh(timer) => {
-            let emptied = ledger::fresh();
-            let after = Machine {
-                ready: true,
-                timer: timer,
-                ledger: emptied,
-            };
-            accepted(after, nothing)
-        }
+    let outcome = make(&mut core, &mut threads, change);
+    Stepped {
+        outcome,
+        machine: Machine::of(core, threads),
     }
 }
 

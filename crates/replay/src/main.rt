@@ -1,10 +1,10 @@
-// Replays a trace, from the file that the first argument names, else from standard input, and writes its lines to standard output.
+// Writes the lines of a trace to standard output: of the file that the first argument names, else of standard input.
 #![tactic(auto)]
 
 mod input;
 mod output;
 
-use input::Input;
+use output::{complain, fail};
 use std::env::FillError;
 use std::fs::File;
 use std::io::Read;
@@ -17,42 +17,35 @@ const NAME: usize = 4096;
 // A failure is a line on standard error, of which ./tickclock makes a status. Of its own the program has one, 1, where
 // something could not be opened, read or written.
 fn main(rt: HostRuntime) -> ExitCode {
-    if has_argument(&rt, 2) {
-        output::complain(&rt, "usage: replay [TRACE]");
+    if has_second_argument(&rt) {
+        complain(&rt, "usage: replay [TRACE]");
         return ExitCode::SUCCESS;
     }
-    if has_argument(&rt, 1) {
-        replay_file(&rt)
-    } else {
-        replay_from(&rt, &mut rt.stdin(), "standard input")
+    let mut word = [0u8; NAME];
+    match rt.arg(1, &mut word) {
+        Ok(length) => replay_file(&rt, &word[..length]),
+        Err(FillError::NotPresent) => replay_from(&rt, &mut rt.stdin(), "standard input"),
+        Err(FillError::TooLong) => {
+            complain(&rt, "first argument: File name too long");
+            ExitCode::SUCCESS
+        }
     }
 }
 
-fn has_argument(rt: &impl Env, place: usize) -> bool {
-    let mut word = [0u8; NAME];
-    match rt.arg(place, &mut word) {
-        Err(FillError::NotPresent) => false,
-        _ => true,
-    }
+// One that is too long to be told is there all the same.
+fn has_second_argument(rt: &impl Env) -> bool {
+    !matches!(rt.arg(2, &mut [0u8; NAME]), Err(FillError::NotPresent))
 }
 
-fn replay_file(rt: &impl Runtime) -> ExitCode {
-    let mut word = [0u8; NAME];
-    let Ok(length) = rt.arg(1, &mut word) else {
-        output::complain(rt, "first argument: File name too long");
-        return ExitCode::SUCCESS;
-    };
-    // std opens a file by a text, and a name may be any bytes.
-    let Ok(name) = std::str::from_utf8(&word[..length]) else {
-        output::complain(rt, "first argument: not UTF-8");
+// std opens a file by a text, and a name may be any bytes.
+fn replay_file(rt: &impl Runtime, name: &[u8]) -> ExitCode {
+    let Ok(name) = std::str::from_utf8(name) else {
+        complain(rt, "first argument: not UTF-8");
         return ExitCode::FAILURE;
     };
     match File::open(rt, name) {
         Ok(mut file) => replay_from(rt, &mut file, name),
-        Err(error) => {
-            output::fail(rt, name, error);
-            ExitCode::FAILURE
-        }
+        Err(error) => fail(rt, name, error),
     }
 }
 
@@ -60,13 +53,7 @@ fn replay_file(rt: &impl Runtime) -> ExitCode {
 fn replay_from(rt: &impl Runtime, from: &mut impl Read, name: &str) -> ExitCode {
     let mut trace = [0u8; input::MOST];
     match input::read_trace(from, &mut trace) {
-        Input::Read(length) => {
-            let start: usize = 0;
-            output::write_lines(rt, &trace[start..length])
-        }
-        Input::Failed(error) => {
-            output::fail(rt, name, error);
-            ExitCode::FAILURE
-        }
+        Ok(length) => output::write_lines(rt, &trace[..length]),
+        Err(error) => fail(rt, name, error),
     }
 }

@@ -31,7 +31,7 @@ refusal_of why = (columns why).0
 abbrev pub after_touch : Reason → Bool
 after_touch why = (columns why).1
 
--- A set_up_lem state with L, tick or v out of range, a running thread without a record, or more accounted for than T.
+-- A state that is set up with L, tick or v out of range, a running thread without a record, or more accounted for than T.
 unfoldable pub malformed : Core → ℕ → Bool
 malformed c slots = c.ready && (not (well_formed c.timer) || unrecorded c.books slots)
 

@@ -1,7 +1,7 @@
 -- Believed: what a record asks of the machine. Each kind that changes the ledger is a sample and then one operation.
 use Rattle.std.specs.Prelude.{ℕ, true, false}
 use Rattle.clock.specs.Timer.{bad_setup}
-use Rattle.clock.specs.Sample.{cycles_of}
+use Rattle.counter.specs.Readings.{cycles_of}
 use Rattle.books.specs.declared.Books.{Books}
 use Rattle.books.specs.declared.Operation.TheVariants as O
 use Rattle.books.specs.Running.{no_thread, past, busy}

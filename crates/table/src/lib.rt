@@ -4,7 +4,6 @@
 ghost use Rattle.std.specs.Prelude.{◌≡◌};
 ghost use Rattle.table.specs.Table.{refusal_of, malformed};
 ghost use Rattle.table.specs.Change.{tested_of};
-ghost use Rattle.table.specs.Says.{outcome_says};
 
 use books::Books;
 use clock::Timer;
@@ -17,6 +16,7 @@ mod tasks;
 // A machine without its thread records: what a record changes is worked out at the same cost for any number of them.
 #[derive(Clone, Copy)]
 pub struct Core {
+    // No `Option` of what follows: a machine handed in that is not set up is given back with all its parts (`step_of`).
     pub ready: bool,
     pub timer: Timer,
     pub books: Books,
@@ -45,20 +45,9 @@ pub struct Values {
     pub y: u64,
 }
 
-#[derive(Clone, Copy)]
-pub enum Outcome {
-    Accepted(Values),
-    Refused(Reason),
-}
-
-#[derive(Clone, Copy)]
-enum Verdict {
-    Passed,
-    Refused(Reason),
-}
-
 #[tactic(auto, unfolding(crate::specs::Table::columns))]
 impl Reason {
+    // By its name, as `number`; and no `?` is to turn a row into its reason unseen.
     pub fn refusal(self) -> Refusal
         ensures { result ≡ refusal_of self }
     {
@@ -77,36 +66,6 @@ impl Reason {
     }
 }
 
-#[tactic(auto, unfolding(crate::specs::Says::outcome_says))]
-impl Outcome {
-    pub fn number(self) -> i32
-        ensures { result ≡ (outcome_says self).number }
-    {
-        match self {
-            Outcome::Accepted(_) => error::OK,
-            Outcome::Refused(why) => why.refusal().number(),
-        }
-    }
-
-    pub fn x(self) -> u64
-        ensures { result ≡ (outcome_says self).value.x }
-    {
-        match self {
-            Outcome::Accepted(values) => values.x,
-            Outcome::Refused(_) => 0,
-        }
-    }
-
-    pub fn y(self) -> u64
-        ensures { result ≡ (outcome_says self).value.y }
-    {
-        match self {
-            Outcome::Accepted(values) => values.y,
-            Outcome::Refused(_) => 0,
-        }
-    }
-}
-
 #[tactic(auto, unfolding(crate::specs::Table::malformed))]
 pub fn malformed(core: Core, slots: usize) -> bool
     ensures { result ≡ malformed core slots }
@@ -120,31 +79,31 @@ pub fn malformed(core: Core, slots: usize) -> bool
 
 // 01's table, row by row: the first test that holds turns the record away, and nothing has been touched.
 #[tactic(auto, unfolding(crate::specs::Change::tested_of))]
-fn tested(core: Core, asked: Asked) -> Verdict
+fn tested(core: Core, asked: Asked) -> Result<(), Reason>
     ensures { result ≡ tested_of core asked }
 {
     let timer = core.timer;
     let counter = timer.counter;
     if asked.bad {
-        return Verdict::Refused(Reason::BadRecord);
+        return Err(Reason::BadRecord);
     }
     if !core.ready & !asked.setup {
-        return Verdict::Refused(Reason::NotSetUp);
+        return Err(Reason::NotSetUp);
     }
     if core.ready & asked.setup {
-        return Verdict::Refused(Reason::SecondSetup);
+        return Err(Reason::SecondSetup);
     }
     if asked.past {
-        return Verdict::Refused(Reason::NoThread);
+        return Err(Reason::NoThread);
     }
     if asked.busy {
-        return Verdict::Refused(Reason::Running);
+        return Err(Reason::Running);
     }
     if asked.samples & clock::crowded(timer) {
-        return Verdict::Refused(Reason::AnnounceFirst);
+        return Err(Reason::AnnounceFirst);
     }
     if counter.cycles_above(asked.cycles) {
-        return Verdict::Refused(Reason::CyclesAbove);
+        return Err(Reason::CyclesAbove);
     }
-    Verdict::Passed
+    Ok(())
 }

@@ -26,8 +26,8 @@ pub enum Task {
     Setup(Setup),
 }
 
-// What of a task the table's rows look at.
-#[derive(Clone, Copy)]
+// What of a task the table's rows look at; by default nothing.
+#[derive(Clone, Copy, Default)]
 pub struct Asked {
     // A setup, and one with a bad period or tick.
     pub setup: bool,
@@ -72,44 +72,39 @@ pub fn task_of(decoded: Record) -> Task
 pub fn asks_nothing() -> Asked
     ensures { result ≡ asked_by nothing_booked 0 T.Announce }
 {
-    Asked {
-        setup: false,
-        bad: false,
-        past: false,
-        busy: false,
-        samples: false,
-        cycles: 0,
-    }
+    Asked::default()
 }
 
 #[tactic(auto, unfolding(crate::specs::Task::asked_by))]
 pub fn asks_cycles(cycles: u64) -> Asked
     ensures { result ≡ asked_by nothing_booked 0 (T.Run cycles) }
 {
-    let mut asked = asks_nothing();
-    asked.cycles = cycles;
-    asked
+    Asked {
+        cycles,
+        ..Asked::default()
+    }
 }
 
 #[tactic(auto, unfolding(crate::specs::Task::asked_by))]
 fn asks_sample(gaps: Gaps) -> Asked
     ensures { result ≡ asked_by nothing_booked 0 (T.Sample gaps W.Tell) }
 {
-    let mut asked = asks_cycles(gaps.whole());
-    asked.samples = true;
-    asked
+    Asked {
+        samples: true,
+        cycles: gaps.whole(),
+        ..Asked::default()
+    }
 }
 
 #[tactic(auto, unfolding(crate::specs::Task::asked_by))]
 fn asks_operation(books: Books, slots: usize, operation: Operation, gaps: Gaps) -> Asked
     ensures { result ≡ asked_by books slots (T.Sample gaps (W.Operate operation)) }
 {
-    let past = books::past(operation, slots);
-    let busy = books::busy(books, operation);
-    let mut asked = asks_sample(gaps);
-    asked.past = past;
-    asked.busy = busy;
-    asked
+    Asked {
+        past: books::past(operation, slots),
+        busy: books::busy(books, operation),
+        ..asks_sample(gaps)
+    }
 }
 
 #[tactic(auto, unfolding(crate::specs::Task::asked_by))]
@@ -126,10 +121,10 @@ pub fn asks_then(books: Books, slots: usize, gaps: Gaps, then: Then) -> Asked
 pub fn asks_report(slots: usize, thread: u32) -> Asked
     ensures { result ≡ asked_by nothing_booked slots (T.Report thread) }
 {
-    let past = books::no_thread(slots, thread);
-    let mut asked = asks_nothing();
-    asked.past = past;
-    asked
+    Asked {
+        past: books::no_thread(slots, thread),
+        ..Asked::default()
+    }
 }
 
 // No bytes decode to a bad setup, but one can be handed in.
@@ -137,9 +132,9 @@ pub fn asks_report(slots: usize, thread: u32) -> Asked
 pub fn asks_setup(setup: Setup) -> Asked
     ensures { result ≡ asked_by nothing_booked 0 (T.Setup setup) }
 {
-    let bad = clock::bad_setup(setup.period, setup.tick);
-    let mut asked = asks_nothing();
-    asked.setup = true;
-    asked.bad = bad;
-    asked
+    Asked {
+        setup: true,
+        bad: clock::bad_setup(setup.period, setup.tick),
+        ..Asked::default()
+    }
 }

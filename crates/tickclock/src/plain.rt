@@ -16,7 +16,7 @@ pub fn is_set(flag: u32) -> bool
 pub fn flag_of(on: bool) -> u32
     ensures { result ≡ flag_of on }
 {
-    if on { 1 } else { 0 }
+    u32::from(on)
 }
 
 #[tactic(auto, unfolding(crate::specs::Plain::usage_of))]

@@ -14,14 +14,14 @@ pub fn usage_enable_number(track_usage: u32, total_cycles: u64, num_windows: u32
     ensures { result ≡ (changed_says (enabled (usage_of track_usage total_cycles num_windows))).number }
 {
     let before = plain::usage_of(track_usage, total_cycles, num_windows);
-    usage::enabled(before).number()
+    error::number(usage::enabled(before))
 }
 
 pub fn usage_enable_track_usage(track_usage: u32, total_cycles: u64, num_windows: u32) -> u32
     ensures { result ≡ flag_of (changed_says (enabled (usage_of track_usage total_cycles num_windows))).value.track_usage }
 {
     let before = plain::usage_of(track_usage, total_cycles, num_windows);
-    let after = usage::enabled(before).usage();
+    let after = usage::enabled(before).unwrap_or(ThreadUsage::new_idle());
     plain::flag_of(after.track_usage)
 }
 
@@ -29,7 +29,7 @@ pub fn usage_enable_total_cycles(track_usage: u32, total_cycles: u64, num_window
     ensures { result ≡ (changed_says (enabled (usage_of track_usage total_cycles num_windows))).value.total_cycles.0 }
 {
     let before = plain::usage_of(track_usage, total_cycles, num_windows);
-    let after = usage::enabled(before).usage();
+    let after = usage::enabled(before).unwrap_or(ThreadUsage::new_idle());
     after.total_cycles.0
 }
 
@@ -37,7 +37,7 @@ pub fn usage_enable_num_windows(track_usage: u32, total_cycles: u64, num_windows
     ensures { result ≡ (changed_says (enabled (usage_of track_usage total_cycles num_windows))).value.num_windows }
 {
     let before = plain::usage_of(track_usage, total_cycles, num_windows);
-    let after = usage::enabled(before).usage();
+    let after = usage::enabled(before).unwrap_or(ThreadUsage::new_idle());
     after.num_windows
 }
 
@@ -45,14 +45,14 @@ pub fn usage_disable_number(track_usage: u32, total_cycles: u64, num_windows: u3
     ensures { result ≡ (changed_says (disabled (usage_of track_usage total_cycles num_windows))).number }
 {
     let before = plain::usage_of(track_usage, total_cycles, num_windows);
-    usage::disabled(before).number()
+    error::number(usage::disabled(before))
 }
 
 pub fn usage_disable_track_usage(track_usage: u32, total_cycles: u64, num_windows: u32) -> u32
     ensures { result ≡ flag_of (changed_says (disabled (usage_of track_usage total_cycles num_windows))).value.track_usage }
 {
     let before = plain::usage_of(track_usage, total_cycles, num_windows);
-    let after = usage::disabled(before).usage();
+    let after = usage::disabled(before).unwrap_or(ThreadUsage::new_idle());
     plain::flag_of(after.track_usage)
 }
 
@@ -60,7 +60,7 @@ pub fn usage_disable_total_cycles(track_usage: u32, total_cycles: u64, num_windo
     ensures { result ≡ (changed_says (disabled (usage_of track_usage total_cycles num_windows))).value.total_cycles.0 }
 {
     let before = plain::usage_of(track_usage, total_cycles, num_windows);
-    let after = usage::disabled(before).usage();
+    let after = usage::disabled(before).unwrap_or(ThreadUsage::new_idle());
     after.total_cycles.0
 }
 
@@ -68,7 +68,7 @@ pub fn usage_disable_num_windows(track_usage: u32, total_cycles: u64, num_window
     ensures { result ≡ (changed_says (disabled (usage_of track_usage total_cycles num_windows))).value.num_windows }
 {
     let before = plain::usage_of(track_usage, total_cycles, num_windows);
-    let after = usage::disabled(before).usage();
+    let after = usage::disabled(before).unwrap_or(ThreadUsage::new_idle());
     after.num_windows
 }
 
@@ -81,7 +81,7 @@ pub fn usage_accumulate_number(
     ensures { result ≡ (changed_says (accumulated (usage_of track_usage total_cycles num_windows) cycles)).number }
 {
     let before = plain::usage_of(track_usage, total_cycles, num_windows);
-    usage::accumulated(before, cycles).number()
+    error::number(usage::accumulated(before, cycles))
 }
 
 pub fn usage_accumulate_track_usage(
@@ -93,7 +93,7 @@ pub fn usage_accumulate_track_usage(
     ensures { result ≡ flag_of (changed_says (accumulated (usage_of track_usage total_cycles num_windows) cycles)).value.track_usage }
 {
     let before = plain::usage_of(track_usage, total_cycles, num_windows);
-    let after = usage::accumulated(before, cycles).usage();
+    let after = usage::accumulated(before, cycles).unwrap_or(ThreadUsage::new_idle());
     plain::flag_of(after.track_usage)
 }
 
@@ -106,7 +106,7 @@ pub fn usage_accumulate_total_cycles(
     ensures { result ≡ (changed_says (accumulated (usage_of track_usage total_cycles num_windows) cycles)).value.total_cycles.0 }
 {
     let before = plain::usage_of(track_usage, total_cycles, num_windows);
-    let after = usage::accumulated(before, cycles).usage();
+    let after = usage::accumulated(before, cycles).unwrap_or(ThreadUsage::new_idle());
     after.total_cycles.0
 }
 
@@ -119,7 +119,7 @@ pub fn usage_accumulate_num_windows(
     ensures { result ≡ (changed_says (accumulated (usage_of track_usage total_cycles num_windows) cycles)).value.num_windows }
 {
     let before = plain::usage_of(track_usage, total_cycles, num_windows);
-    let after = usage::accumulated(before, cycles).usage();
+    let after = usage::accumulated(before, cycles).unwrap_or(ThreadUsage::new_idle());
     after.num_windows
 }
 

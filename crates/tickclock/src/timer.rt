@@ -12,52 +12,52 @@ use units::{Cycles, Ticks};
 pub fn systick_elapsed_cycles_number(last_count: u32, current_count: u32, load: u32) -> i32
     ensures { result ≡ (elapsed_cycles_says (elapsed_cycles last_count current_count load)).number }
 {
-    systick::elapsed_cycles(last_count, current_count, load).number()
+    error::number(systick::elapsed_cycles(last_count, current_count, load))
 }
 
 pub fn systick_elapsed_cycles_cycles(last_count: u32, current_count: u32, load: u32) -> u32
     ensures { result ≡ (elapsed_cycles_says (elapsed_cycles last_count current_count load)).value }
 {
-    systick::elapsed_cycles(last_count, current_count, load).cycles()
+    systick::elapsed_cycles(last_count, current_count, load).unwrap_or_default()
 }
 
 pub fn systick_cycles_to_ticks_number(cycles: u64, cycles_per_tick: u32) -> i32
     ensures { result ≡ (cycles_to_ticks_says (cycles_to_ticks (record { 0 = cycles }) cycles_per_tick)).number }
 {
-    systick::cycles_to_ticks(Cycles(cycles), cycles_per_tick).number()
+    error::number(systick::cycles_to_ticks(Cycles(cycles), cycles_per_tick))
 }
 
 pub fn systick_cycles_to_ticks_ticks(cycles: u64, cycles_per_tick: u32) -> u64
     ensures { result ≡ (cycles_to_ticks_says (cycles_to_ticks (record { 0 = cycles }) cycles_per_tick)).value.0 }
 {
-    let ticks = systick::cycles_to_ticks(Cycles(cycles), cycles_per_tick).ticks();
+    let ticks = systick::cycles_to_ticks(Cycles(cycles), cycles_per_tick).unwrap_or_default();
     ticks.0
 }
 
 pub fn systick_ticks_to_cycles_number(ticks: u64, cycles_per_tick: u32) -> i32
     ensures { result ≡ (ticks_to_cycles_says (ticks_to_cycles (record { 0 = ticks }) cycles_per_tick)).number }
 {
-    systick::ticks_to_cycles(Ticks(ticks), cycles_per_tick).number()
+    error::number(systick::ticks_to_cycles(Ticks(ticks), cycles_per_tick))
 }
 
 pub fn systick_ticks_to_cycles_cycles(ticks: u64, cycles_per_tick: u32) -> u64
     ensures { result ≡ (ticks_to_cycles_says (ticks_to_cycles (record { 0 = ticks }) cycles_per_tick)).value.0 }
 {
-    let cycles = systick::ticks_to_cycles(Ticks(ticks), cycles_per_tick).cycles();
+    let cycles = systick::ticks_to_cycles(Ticks(ticks), cycles_per_tick).unwrap_or_default();
     cycles.0
 }
 
 pub fn systick_max_ticks_number(cycles_per_tick: u32) -> i32
     ensures { result ≡ (max_ticks_says (max_ticks cycles_per_tick)).number }
 {
-    systick::max_ticks(cycles_per_tick).number()
+    error::number(systick::max_ticks(cycles_per_tick))
 }
 
 #[tactic(auto, using(systick::proofs::Widths::max_ticks_below))]
 pub fn systick_max_ticks_ticks(cycles_per_tick: u32) -> u32
     ensures { result ≡ (max_ticks_says (max_ticks cycles_per_tick)).value.0 }
 {
-    let ticks = systick::max_ticks(cycles_per_tick).ticks();
+    let ticks = systick::max_ticks(cycles_per_tick).unwrap_or(Ticks(0));
     ticks.0 as u32
 }
 
@@ -71,7 +71,7 @@ pub fn systick_elapsed_decide_number(
     ensures { result ≡ (elapsed_decide_says (elapsed_decide val1 val2 (is_set countflag) load overflow_cyc)).number }
 {
     let flag = plain::is_set(countflag);
-    systick::elapsed_decide(val1, val2, flag, load, overflow_cyc).number()
+    error::number(systick::elapsed_decide(val1, val2, flag, load, overflow_cyc))
 }
 
 pub fn systick_elapsed_decide_wrap_detected(
@@ -84,7 +84,8 @@ pub fn systick_elapsed_decide_wrap_detected(
     ensures { result ≡ flag_of (elapsed_decide_says (elapsed_decide val1 val2 (is_set countflag) load overflow_cyc)).value.wrap_detected }
 {
     let flag = plain::is_set(countflag);
-    plain::flag_of(systick::elapsed_decide(val1, val2, flag, load, overflow_cyc).wrap_detected())
+    let decided = systick::elapsed_decide(val1, val2, flag, load, overflow_cyc).unwrap_or_default();
+    plain::flag_of(decided.wrap_detected)
 }
 
 pub fn systick_elapsed_decide_new_overflow_cyc(
@@ -97,7 +98,8 @@ pub fn systick_elapsed_decide_new_overflow_cyc(
     ensures { result ≡ (elapsed_decide_says (elapsed_decide val1 val2 (is_set countflag) load overflow_cyc)).value.new_overflow_cyc }
 {
     let flag = plain::is_set(countflag);
-    systick::elapsed_decide(val1, val2, flag, load, overflow_cyc).new_overflow_cyc()
+    let after = systick::elapsed_decide(val1, val2, flag, load, overflow_cyc).unwrap_or_default();
+    after.new_overflow_cyc
 }
 
 pub fn systick_elapsed_decide_elapsed(
@@ -110,7 +112,9 @@ pub fn systick_elapsed_decide_elapsed(
     ensures { result ≡ (elapsed_decide_says (elapsed_decide val1 val2 (is_set countflag) load overflow_cyc)).value.elapsed }
 {
     let flag = plain::is_set(countflag);
-    systick::elapsed_decide(val1, val2, flag, load, overflow_cyc).elapsed()
+    systick::elapsed_decide(val1, val2, flag, load, overflow_cyc)
+        .unwrap_or_default()
+        .elapsed
 }
 
 pub fn systick_announce_decide_number(
@@ -123,10 +127,10 @@ pub fn systick_announce_decide_number(
 {
     let count = Cycles(cycle_count);
     let announced = Cycles(announced_cycles);
-    systick::announce_decide(count, announced, overflow_cyc, cycles_per_tick).number()
+    error::number(systick::announce_decide(count, announced, overflow_cyc, cycles_per_tick))
 }
 
-#[tactic(auto, using(systick::proofs::Widths::dticks_fit))]
+#[tactic(auto, using(systick::proofs::Widths::dticks_of_accepted))]
 pub fn systick_announce_decide_dticks(
     cycle_count: u64,
     announced_cycles: u64,
@@ -137,8 +141,10 @@ pub fn systick_announce_decide_dticks(
 {
     let count = Cycles(cycle_count);
     let announced = Cycles(announced_cycles);
-    let ticks = systick::announce_decide(count, announced, overflow_cyc, cycles_per_tick).dticks();
-    ticks.0 as u32
+    match systick::announce_decide(count, announced, overflow_cyc, cycles_per_tick) {
+        Ok(decided) => decided.dticks.0 as u32,
+        Err(_) => 0,
+    }
 }
 
 pub fn systick_announce_decide_new_cycle_count(
@@ -151,13 +157,13 @@ pub fn systick_announce_decide_new_cycle_count(
 {
     let count = Cycles(cycle_count);
     let announced = Cycles(announced_cycles);
-    let cycles = systick::announce_decide(
+    let decided = systick::announce_decide(
         count,
         announced,
         overflow_cyc,
         cycles_per_tick,
-    ).new_cycle_count();
-    cycles.0
+    ).unwrap_or_default();
+    decided.new_cycle_count.0
 }
 
 pub fn systick_announce_decide_new_announced_cycles(
@@ -170,23 +176,23 @@ pub fn systick_announce_decide_new_announced_cycles(
 {
     let count = Cycles(cycle_count);
     let announced = Cycles(announced_cycles);
-    let cycles = systick::announce_decide(
+    let decided = systick::announce_decide(
         count,
         announced,
         overflow_cyc,
         cycles_per_tick,
-    ).new_announced_cycles();
-    cycles.0
+    ).unwrap_or_default();
+    decided.new_announced_cycles.0
 }
 
 pub fn counter_value_number(raw: u32, load: u32) -> i32
     ensures { result ≡ (value_says (value_of raw load)).number }
 {
-    counter::value_of(raw, load).number()
+    error::number(counter::value_of(raw, load))
 }
 
 pub fn counter_value_value(raw: u32, load: u32) -> u32
     ensures { result ≡ (value_says (value_of raw load)).value }
 {
-    counter::value_of(raw, load).value()
+    counter::value_of(raw, load).unwrap_or_default()
 }

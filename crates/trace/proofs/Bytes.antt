@@ -1,4 +1,5 @@
 -- Decoding undone: fields and records, bytes and fields.
+use Rattle.std.specs.Prelude.{Ok, Err}
 use Prim.Native.Nat.{ℕ, zero, suc, ◌+◌, ◌*◌, ◌/◌, ◌%◌, ◌^◌, ◌≤◌, ◌<◌}
 use mathlib.Core.Path.{◌≡◌, refl, sym, ap, ◌∙◌}
 use mathlib.Core.Bool.{Bool, true, false, cond, not, ◌&&◌, ◌||◌}
@@ -15,8 +16,7 @@ use Rattle.clock.specs.Timer.{bad_setup}
 use Rattle.trace.specs.declared.Fields.{Fields}
 use Rattle.trace.specs.declared.Record.{Record}
 use Rattle.trace.specs.declared.Record.TheVariants as K
-use Rattle.trace.specs.declared.Decoded.{Decoded}
-use Rattle.trace.specs.declared.Decoded.TheVariants as D
+use Rattle.trace.specs.Decode.{Decoded}
 use Rattle.trace.specs.Decode.{word_of, word_at, fields_at, samples_first, uses_thread, unused_set, record_of, decode_tests, decode_fields, decode_of}
 use Rattle.trace.specs.Bytes.{fields_of, Fit, word_then, encoded, four_then, sixteen_at, Decodes}
 use Rattle.trace.proofs.Outcomes.{whole}
@@ -26,7 +26,7 @@ use Rattle.trace.proofs.Outcomes.{whole}
 abbrev Good : Fields → Type 0
 Good f = f.kind ≡ 9 → bad_setup f.p f.q ≡ false
 
-back : (r : Record) → Good (fields_of r) → decode_fields (fields_of r) ≡ D.Accepted r
+back : (r : Record) → Good (fields_of r) → decode_fields (fields_of r) ≡ Ok r
 unfolding decode_fields unused_set samples_first uses_thread record_of
 back (K.Run p) good = refl
 back (K.Sample g) good = refl
@@ -100,10 +100,10 @@ forth (suc (suc (suc (suc (suc (suc (suc (suc (suc (suc k)))))))))) t z p q r h 
 good_of : (f : Fields) → eqb f.kind 9 && bad_setup f.p f.q ≡ false → Good f
 good_of f b nine = rw nine at b
 
-accepted : (f : Fields) (r : Record) → decode_fields f ≡ D.Accepted r → (f ≡ fields_of r) × Good f
+accepted : (f : Fields) (r : Record) → decode_fields f ≡ Ok r → (f ≡ fields_of r) × Good f
 unfolding decode_fields
 accepted f r =
-    by_outcome D.Refused (D.Accepted (record_of f)) (λ (o : Decoded). o ≡ D.Accepted r → (f ≡ fields_of r) × Good f) (decode_tests f)
+    by_outcome Err (Ok (record_of f)) (λ (o : Decoded). o ≡ Ok r → (f ≡ fields_of r) × Good f) (decode_tests f)
     (λ why q. clash (cc))
     (λ none q.
     let is : record_of f ≡ r = cc in
@@ -190,30 +190,30 @@ decoded_back s at f fit z e = same f _ _ _ _ _ _ (byte 0) (byte 1) (zero_word _ 
     same f k t z p q r a b c d e g = rw (a, b, c, d, e, g) refl
 
 -- what decodes has its sixteen bytes
-room_of : (s : List ℕ) (at : ℕ) (r : Record) → decode_of s at ≡ D.Accepted r → at + 16 ≤ length s
+room_of : (s : List ℕ) (at : ℕ) (r : Record) → decode_of s at ≡ Ok r → at + 16 ≤ length s
 unfolding decode_of
 room_of s at r = by_test (ltb (length s) (at + 16)) refl
   where
-    by_test : (t : Bool) → ltb (length s) (at + 16) ≡ t → cond t (D.Refused Invalid) (decode_fields (fields_at s at)) ≡ D.Accepted r → at + 16 ≤ length s
+    by_test : (t : Bool) → ltb (length s) (at + 16) ≡ t → cond t (Err Invalid) (decode_fields (fields_at s at)) ≡ Ok r → at + 16 ≤ length s
     by_test true e q = clash (cc)
     by_test false e q = ltb-false _ _ e
 
 -- every test has one reason
-refused_fields : (f : Fields) (why : Refusal) → decode_fields f ≡ D.Refused why → why ≡ Invalid
+refused_fields : (f : Fields) (why : Refusal) → decode_fields f ≡ Err why → why ≡ Invalid
 unfolding decode_fields
 refused_fields f why = by_tests (ltb 9 f.kind) (unused_set f) (eqb f.kind 9 && bad_setup f.p f.q)
   where
-    by_tests : (a b c : Bool) → cond a (D.Refused Invalid) (cond b (D.Refused Invalid) (cond c (D.Refused Invalid) (D.Accepted (record_of f)))) ≡ D.Refused why → why ≡ Invalid
+    by_tests : (a b c : Bool) → cond a (Err Invalid) (cond b (Err Invalid) (cond c (Err Invalid) (Ok (record_of f)))) ≡ Err why → why ≡ Invalid
     by_tests true b c q = cc
     by_tests false true c q = cc
     by_tests false false true q = cc
     by_tests false false false q = clash (cc)
 
-refused_at : (s : List ℕ) (at : ℕ) (why : Refusal) → decode_of s at ≡ D.Refused why → why ≡ Invalid
+refused_at : (s : List ℕ) (at : ℕ) (why : Refusal) → decode_of s at ≡ Err why → why ≡ Invalid
 unfolding decode_of
 refused_at s at why = by_test (ltb (length s) (at + 16))
   where
-    by_test : (t : Bool) → cond t (D.Refused Invalid) (decode_fields (fields_at s at)) ≡ D.Refused why → why ≡ Invalid
+    by_test : (t : Bool) → cond t (Err Invalid) (decode_fields (fields_at s at)) ≡ Err why → why ≡ Invalid
     by_test true q = cc
     by_test false q = refused_fields (fields_at s at) why q
 

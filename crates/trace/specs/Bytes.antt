@@ -1,12 +1,11 @@
 -- Believed: the sixteen bytes of a record. Bytes decode as a record exactly where they are what it is encoded as.
-use Rattle.std.specs.Prelude.{ℕ, ◌+◌, ◌/◌, ◌%◌, ◌^◌, ◌≤◌, ◌<◌, ◌≡◌, false, List, [], ◌∷◌, ◌↔◌, length, get_or}
+use Rattle.std.specs.Prelude.{ℕ, ◌+◌, ◌/◌, ◌%◌, ◌^◌, ◌≤◌, ◌<◌, ◌≡◌, false, List, [], ◌∷◌, ◌↔◌, length, get_or, Ok, Err}
 use Rattle.error.specs.declared.Refusal.{Refusal}
 use Rattle.error.specs.declared.Refusal.TheVariants.{Invalid}
 use Rattle.clock.specs.Timer.{bad_setup}
 use Rattle.trace.specs.declared.Fields.{Fields}
 use Rattle.trace.specs.declared.Record.{Record}
 use Rattle.trace.specs.declared.Record.TheVariants as K
-use Rattle.trace.specs.declared.Decoded.TheVariants as D
 use Rattle.trace.specs.Decode.{decode_of}
 
 abbrev pub fields : ℕ → ℕ → ℕ → ℕ → ℕ → Fields
@@ -50,5 +49,5 @@ sixteen_at s at = four_then s at (four_then s (at + 4) (four_then s (at + 8) (fo
 
 -- bytes are a record if and only if sixteen are left there and they are its own; whatever is turned away meets the first row
 pub record Decodes : Type 0 where
-  pub record_is : (s : List ℕ) (at : ℕ) → ((i : ℕ) → get_or s i 0 < 256) → (r : Record) → (decode_of s at ≡ D.Accepted r) ↔ ((at + 16 ≤ length s) × Fit (fields_of r) × (sixteen_at s at ≡ encoded (fields_of r)))
-  pub refused_is : (s : List ℕ) (at : ℕ) (why : Refusal) → decode_of s at ≡ D.Refused why → why ≡ Invalid
+  pub record_is : (s : List ℕ) (at : ℕ) → ((i : ℕ) → get_or s i 0 < 256) → (r : Record) → (decode_of s at ≡ Ok r) ↔ ((at + 16 ≤ length s) × Fit (fields_of r) × (sixteen_at s at ≡ encoded (fields_of r)))
+  pub refused_is : (s : List ℕ) (at : ℕ) (why : Refusal) → decode_of s at ≡ Err why → why ≡ Invalid

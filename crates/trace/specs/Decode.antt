@@ -1,16 +1,14 @@
 -- Inside: sixteen bytes taken apart as the code does it, what each kind uses, and what is turned away. `Decodes` (Bytes.antt) says what comes of it, and `Readers` (crates/demands/specs/Readers.antt) what the answer says.
-use Rattle.std.specs.Prelude.{ℕ, ◌+◌, ◌*◌, Bool, cond, not, ◌&&◌, ◌||◌, List, [], ◌∷◌, length, get_or, ltb, leb, eqb}
+use Rattle.std.specs.Prelude.{ℕ, ◌+◌, ◌*◌, Bool, cond, not, ◌&&◌, ◌||◌, List, [], ◌∷◌, length, get_or, ltb, leb, eqb, Result, Ok, Err}
 use Rattle.error.specs.declared.Refusal.{Refusal}
 use Rattle.error.specs.declared.Refusal.TheVariants.{Invalid}
-use Rattle.error.specs.Said.{Said, accepted, refused}
+use Rattle.error.specs.Said.{Said, says}
 use Rattle.error.specs.InOrder.{Row, in_order}
-use Rattle.clock.specs.declared.Gaps.{Gaps}
+use Rattle.counter.specs.declared.Gaps.{Gaps}
 use Rattle.clock.specs.Timer.{bad_setup}
 use Rattle.trace.specs.declared.Fields.{Fields}
 use Rattle.trace.specs.declared.Record.{Record}
 use Rattle.trace.specs.declared.Record.TheVariants as K
-use Rattle.trace.specs.declared.Decoded.{Decoded}
-use Rattle.trace.specs.declared.Decoded.TheVariants as D
 
 -- four bytes, little-endian
 abbrev pub word_of : ℕ → ℕ → ℕ → ℕ → ℕ
@@ -71,14 +69,17 @@ decode_tests f =
     (eqb f.kind 9 && bad_setup f.p f.q, Invalid) ∷
     []
 
+-- a record, or why these bytes are none
+abbrev pub Decoded : Type 0
+Decoded = Result Record Refusal
+
 unfoldable pub decode_fields : Fields → Decoded
-decode_fields f = in_order (decode_tests f) D.Refused (D.Accepted (record_of f))
+decode_fields f = in_order (decode_tests f) Err (Ok (record_of f))
 
 -- fewer than sixteen bytes are no record
 unfoldable pub decode_of : List ℕ → ℕ → Decoded
-decode_of s at = in_order ((ltb (length s) (at + 16), Invalid) ∷ []) D.Refused (decode_fields (fields_at s at))
+decode_of s at = in_order ((ltb (length s) (at + 16), Invalid) ∷ []) Err (decode_fields (fields_at s at))
 
 -- what the answer says: 0 and the record, or the refusal's number and what sixteen zeros stand for
-unfoldable pub decoded_says : Decoded → Said Record
-decoded_says (D.Accepted r) = accepted r
-decoded_says (D.Refused why) = refused why (K.Run 0)
+abbrev pub decoded_says : Decoded → Said Record
+decoded_says answer = says (K.Run 0) answer

@@ -1,16 +1,17 @@
 // Sixteen bytes of a trace: their fields, and the one record that they stand for.
 #![tactic(auto)]
 
-ghost use Rattle.std.specs.Prelude.{◌+◌, ◌≤◌, ◌≡◌, cond, length};
+ghost use Rattle.std.specs.Prelude.{◌+◌, ◌≤◌, ◌≡◌, cond, length, Ok, Err};
 ghost use Rattle.error.specs.declared.Refusal.TheVariants.{Invalid};
-ghost use Rattle.trace.specs.Decode.{word_of, word_at, fields_at, decode_fields, decode_of, decoded_says};
+ghost use Rattle.trace.specs.Decode.{word_at, fields_at, decode_fields, decode_of};
 
 use clock::Gaps;
 use error::Refusal;
 
 pub mod reader;
 
-// A record's bytes as numbers; `spare` is the two bytes that are always 0.
+// A record's bytes as numbers, before they are a record: the kind may be any byte. `spare` is the two bytes that are
+// always 0.
 #[derive(Clone, Copy)]
 struct Fields {
     kind: u8,
@@ -41,36 +42,13 @@ pub enum Record {
     Setup(Setup),
 }
 
-#[derive(Clone, Copy)]
-pub enum Decoded {
-    Accepted(Record),
-    Refused(Refusal),
-}
-
-impl Decoded {
-    #[tactic(auto, unfolding(crate::specs::Decode::decoded_says))]
-    pub fn number(self) -> i32
-        ensures { result ≡ (decoded_says self).number }
-    {
-        match self {
-            Decoded::Accepted(_) => error::OK,
-            Decoded::Refused(why) => why.number(),
-        }
-    }
-}
-
-fn word(a: u8, b: u8, c: u8, d: u8) -> u32
-    ensures { result ≡ word_of a b c d }
-{
-    a as u32 + (b as u32) * 256 + (c as u32) * 65536 + (d as u32) * 16777216
-}
-
+// Four bytes, little-endian.
 #[tactic(auto, unfolding(crate::specs::Decode::word_at))]
 fn word_at(trace: &[u8], at: usize) -> u32
     requires { at + 4 ≤ length trace.now }
     ensures { result ≡ word_at trace.now at }
 {
-    word(trace[at], trace[at + 1], trace[at + 2], trace[at + 3])
+    u32::from_le_bytes([trace[at], trace[at + 1], trace[at + 2], trace[at + 3]])
 }
 
 #[tactic(auto, unfolding(crate::specs::Decode::fields_at))]
@@ -80,7 +58,7 @@ fn fields_at(trace: &[u8], at: usize) -> Fields
 {
     let kind = trace[at];
     let thread = trace[at + 1];
-    let spare = word(trace[at + 2], trace[at + 3], 0, 0);
+    let spare = u32::from_le_bytes([trace[at + 2], trace[at + 3], 0, 0]);
     let p = word_at(trace, at + 4);
     let q = word_at(trace, at + 8);
     let r = word_at(trace, at + 12);
@@ -95,18 +73,18 @@ fn fields_at(trace: &[u8], at: usize) -> Fields
 }
 
 // The record that was made of the fields, unless they are bad.
-fn accepted_unless(bad: bool, made: Record) -> Decoded
-    ensures { result ≡ cond bad (Decoded.Refused Invalid) (Decoded.Accepted made) }
+fn accepted_unless(bad: bool, made: Record) -> Result<Record, Refusal>
+    ensures { result ≡ cond bad (Err Invalid) (Ok made) }
 {
     if bad {
-        return Decoded::Refused(Refusal::Invalid);
+        return Err(Refusal::Invalid);
     }
-    Decoded::Accepted(made)
+    Ok(made)
 }
 
 // By kind: what a kind does not use must be 0, and of what is used only a setup's period and tick are tested.
 #[tactic(auto, unfolding(crate::specs::Decode::decode_fields, crate::specs::Decode::unused_set, crate::specs::Decode::samples_first, crate::specs::Decode::uses_thread, crate::specs::Decode::record_of))]
-fn decode_fields(fields: Fields) -> Decoded
+fn decode_fields(fields: Fields) -> Result<Record, Refusal>
     ensures { result ≡ decode_fields fields }
 {
     let kind = fields.kind;
@@ -121,17 +99,17 @@ fn decode_fields(fields: Fields) -> Decoded
     let q_set = fields.q != 0;
     let r_set = fields.r != 0;
     if fields.spare != 0 {
-        return Decoded::Refused(Refusal::Invalid);
+        return Err(Refusal::Invalid);
     }
     match kind {
         0 => accepted_unless(thread_set | q_set | r_set, Record::Run(fields.p)),
         1 => accepted_unless(thread_set, Record::Sample(gaps)),
         2 => accepted_unless(thread_set | p_set | q_set | r_set, Record::Announce),
-        3 => Decoded::Accepted(Record::Start(thread, gaps)),
-        4 => Decoded::Accepted(Record::Switch(thread, gaps)),
+        3 => Ok(Record::Start(thread, gaps)),
+        4 => Ok(Record::Switch(thread, gaps)),
         5 => accepted_unless(thread_set, Record::Stop(gaps)),
-        6 => Decoded::Accepted(Record::Enable(thread, gaps)),
-        7 => Decoded::Accepted(Record::Disable(thread, gaps)),
+        6 => Ok(Record::Enable(thread, gaps)),
+        7 => Ok(Record::Disable(thread, gaps)),
         8 => accepted_unless(p_set | q_set | r_set, Record::Report(thread)),
         9 => {
             let bad = clock::bad_setup(fields.p, fields.q);
@@ -141,21 +119,21 @@ fn decode_fields(fields: Fields) -> Decoded
             };
             accepted_unless(thread_set | r_set | bad, Record::Setup(setup))
         }
-        _ => Decoded::Refused(Refusal::Invalid),
+        _ => Err(Refusal::Invalid),
     }
 }
 
 // The record at a place; where no sixteen bytes are left there is none.
 #[tactic(auto, unfolding(crate::specs::Decode::decode_of))]
-pub fn decode(trace: &[u8], at: usize) -> Decoded
+pub fn decode(trace: &[u8], at: usize) -> Result<Record, Refusal>
     ensures { result ≡ decode_of trace.now at }
 {
     let size = trace.len();
     if size < 16 {
-        return Decoded::Refused(Refusal::Invalid);
+        return Err(Refusal::Invalid);
     }
     if size - 16 < at {
-        return Decoded::Refused(Refusal::Invalid);
+        return Err(Refusal::Invalid);
     }
     decode_fields(fields_at(trace, at))
 }

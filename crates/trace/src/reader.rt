@@ -2,7 +2,8 @@
 ghost use Rattle.std.specs.Prelude.{◌≡◌};
 ghost use Rattle.trace.specs.Handing.{records_left, bytes_left, item_at, place_after};
 
-use crate::Decoded;
+use crate::Record;
+use error::Refusal;
 
 #[derive(Clone, Copy)]
 pub struct TraceReader<'a> {
@@ -10,12 +11,8 @@ pub struct TraceReader<'a> {
     pub at: usize,
 }
 
-// What stands at a place: sixteen bytes, a record or refused; or the end, where fewer are left.
-#[derive(Clone, Copy)]
-pub enum Item {
-    Record(Decoded),
-    End,
-}
+// Bytes and place are lent apart here, since document 01 asks for a decoder over a slice and a place, and a statement
+// speaks of each (`TermsGiven`); `TraceReader` holds both.
 
 // How many whole records there are from a place on; past the trace there is none.
 #[tactic(auto, unfolding(crate::specs::Handing::records_left))]
@@ -41,14 +38,15 @@ pub fn bytes_from(trace: &[u8], at: usize) -> usize
     (size - at) % 16
 }
 
+// What stands at a place: sixteen bytes, a record or refused; or nothing, where fewer are left.
 #[tactic(auto, unfolding(crate::specs::Handing::item_at))]
-pub fn item_at(trace: &[u8], at: usize) -> Item
+pub fn item_at(trace: &[u8], at: usize) -> Option<Result<Record, Refusal>>
     ensures { result ≡ item_at trace.now at }
 {
     if records_from(trace, at) == 0 {
-        return Item::End;
+        return None;
     }
-    Item::Record(crate::decode(trace, at))
+    Some(crate::decode(trace, at))
 }
 
 // The place after the record at a place; at the end it stays.
@@ -71,7 +69,7 @@ impl<'a> TraceReader<'a> {
 
     // The item at the reader's place; `moved` is the reader after it.
     #[tactic(auto, unfolding(crate::specs::Handing::item_at))]
-    pub fn next(self) -> Item
+    pub fn next(self) -> Option<Result<Record, Refusal>>
         ensures { result ≡ item_at self.entry.trace.now self.entry.at }
     {
         item_at(self.trace, self.at)
@@ -105,7 +103,7 @@ impl<'a> TraceReader<'a> {
 
 // A trace's first item, by a reader of its own.
 #[tactic(auto, unfolding(crate::specs::Handing::item_at))]
-pub fn first_item(trace: &[u8]) -> Item
+pub fn first_item(trace: &[u8]) -> Option<Result<Record, Refusal>>
     ensures { result ≡ item_at trace.now 0 }
 {
     TraceReader::new(trace).next()

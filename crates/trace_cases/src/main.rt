@@ -3,33 +3,30 @@
 
 mod build;
 mod hold;
-mod input;
 mod judge;
-mod numbers;
 mod record;
 mod say;
+mod step;
 mod tally;
 mod text;
-mod words;
 
-use input::Input;
-use std::io::Result;
+use std::alloc::Global;
+use std::io::{Read, Result, Write};
 use std::process::ExitCode;
 
-// One byte more than a list may have.
-const ROOM: usize = 65537;
+// The most bytes that a list may have.
+const MOST: usize = 65536;
 
 // A list that could not be read to its end gets no last line. A failure is a line on standard error, and a status of 1.
 fn main(rt: HostRuntime) -> ExitCode {
-    let mut list = [0u8; ROOM];
-    let length = match input::read_list(&mut rt.stdin(), &mut list) {
-        Input::Read(length) => length,
-        Input::Failed(error) => {
+    let list = match read_list(rt.stdin(), rt.alloc()) {
+        Ok(list) => list,
+        Err(error) => {
             say::fail(&rt, "standard input", error);
             return ExitCode::FAILURE;
         }
     };
-    match run_list(&rt, &list, length) {
+    match run_list(&rt, list.as_slice()) {
         Ok(()) => ExitCode::SUCCESS,
         Err(error) => {
             say::fail(&rt, "standard output", error);
@@ -38,12 +35,18 @@ fn main(rt: HostRuntime) -> ExitCode {
     }
 }
 
-fn run_list(rt: &impl Print, list: &[u8], length: usize) -> Result<()> {
+// One byte more than a list may have is enough to tell that it has too many.
+fn read_list(from: impl Read + Drop, alloc: Global) -> Result<Vec<u8>> {
+    let mut list = Vec::new(alloc);
+    from.take(MOST as u64 + 1).read_to_end(&mut list)?;
+    Ok(list)
+}
+
+fn run_list(rt: &impl Print, list: &[u8]) -> Result<()> {
     let mut out = std::io::writer(rt);
-    if list.len() <= length {
-        return say::say(&mut out, b"the list is too long\n");
+    if MOST < list.len() {
+        return out.write_all(b"the list is too long\n");
     }
-    let start: usize = 0;
-    let tally = tally::run(&mut out, &list[start..length])?;
-    tally.say(&mut out)
+    let tally = tally::run(&mut out, list)?;
+    writeln!(out, "{tally}")
 }

@@ -1,46 +1,5 @@
-// What the program tells, on standard output, and what went wrong, on standard error.
-use crate::text::{line_end, line_number};
-use std::io::{Error, Result, Write};
-
-pub(crate) fn say(out: &mut impl Write, text: &[u8]) -> Result<()> {
-    out.write_all(text)
-}
-
-pub(crate) fn count(out: &mut impl Write, before: &[u8], number: u64, after: &[u8]) -> Result<()> {
-    say(out, before)?;
-    write!(out, "{number}")?;
-    say(out, after)
-}
-
-// The rest of a line, without its line feed.
-pub(crate) fn rest(out: &mut impl Write, text: &[u8], from: usize) -> Result<()> {
-    if text.len() < from {
-        return Ok(());
-    }
-    let end = line_end(text, from);
-    say(out, &text[from..end])
-}
-
-pub(crate) fn unreadable(out: &mut impl Write, list: &[u8], place: usize) -> Result<()> {
-    count(
-        out,
-        b": line ",
-        line_number(list, place),
-        b" of the list is unreadable\n",
-    )
-}
-
-// The line that the text has there; at its end it has none.
-pub(crate) fn differs(out: &mut impl Write, text: &[u8], place: usize) -> Result<()> {
-    count(
-        out,
-        b": differs, line ",
-        line_number(text, place),
-        b" of its text is `",
-    )?;
-    rest(out, text, place)?;
-    say(out, b"`\n")
-}
+// What went wrong, on standard error.
+use std::io::Error;
 
 // A line on standard error.
 fn complain(rt: &impl Eprint, line: &str) {

@@ -1,62 +1,52 @@
 // The cases of a list, one after another, and how many agreed.
-ghost use Rattle.std.specs.Prelude.{◌<◌, length};
-
 use crate::judge::{Verdict, judge};
-use crate::say;
-use crate::text::{more, next_line};
-use crate::words::begins_case;
+use crate::text::Lines;
+use std::fmt;
 use std::io::{Result, Write};
 
-#[derive(Clone, Copy)]
+#[derive(Clone, Copy, Default)]
 pub struct Tally {
-    pub traces: u64,
-    pub differ: u64,
-    pub unreadable: u64,
+    traces: u64,
+    differ: u64,
+    unreadable: u64,
 }
 
 impl Tally {
-    pub(crate) fn say(self, out: &mut impl Write) -> Result<()> {
-        say::count(out, b"", self.traces, b" traces, ")?;
-        say::count(out, b"", self.differ, b" differ")?;
-        if self.unreadable > 0 {
-            say::count(out, b", ", self.unreadable, b" unreadable")?;
-        }
-        say::say(out, b"\n")
-    }
-
-    fn with(self, verdict: Verdict) -> Self {
-        let mut next = self;
-        next.traces = more(self.traces);
+    fn add(&mut self, verdict: Verdict) {
+        self.traces = self.traces.saturating_add(1);
         match verdict {
             Verdict::Agrees => {}
-            Verdict::Differs => next.differ = more(self.differ),
-            Verdict::Unreadable => next.unreadable = more(self.unreadable),
+            Verdict::Differs => self.differ = self.differ.saturating_add(1),
+            Verdict::Unreadable => self.unreadable = self.unreadable.saturating_add(1),
         }
-        next
     }
 }
 
-// What stands before the first case is its heading and is not looked at.
-pub(crate) fn run(out: &mut impl Write, list: &[u8]) -> Result<Tally> {
-    let mut tally = Tally {
-        traces: 0,
-        differ: 0,
-        unreadable: 0,
-    };
-    let mut at: usize = 0;
-    while at < list.len() {
-        if begins_case(list, at) {
-            tally = tally.with(run_case(out, list, at)?);
+impl fmt::Display for Tally {
+    fn fmt<W: fmt::Write>(&self, f: &mut fmt::Formatter<W>) -> fmt::Result {
+        let Tally {
+            traces,
+            differ,
+            unreadable,
+        } = *self;
+        write!(f, "{traces} traces, {differ} differ")?;
+        if unreadable > 0 {
+            write!(f, ", {unreadable} unreadable")?;
         }
-        at = next_line(list, at);
+        Ok(())
+    }
+}
+
+// What stands before the first case is its heading and is not looked at. A case's first line is its name, which is told
+// before what its lines give.
+pub(crate) fn run(out: &mut impl Write, list: &[u8]) -> Result<Tally> {
+    let mut tally = Tally::default();
+    let mut lines = Lines::of(list);
+    while let Some(line) = lines.next() {
+        if line.begins_case() {
+            out.write_all(line.text)?;
+            tally.add(judge(out, lines)?);
+        }
     }
     Ok(tally)
-}
-
-// The line that begins a case is its name, which is told before what its lines give.
-fn run_case(out: &mut impl Write, list: &[u8], at: usize) -> Result<Verdict>
-    requires { at < length list.now }
-{
-    say::rest(out, list, at)?;
-    judge(out, list, next_line(list, at))
 }

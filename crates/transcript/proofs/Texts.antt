@@ -1,4 +1,5 @@
 -- A record's line, the lines that end a trace's text, and the room that the whole of it is asked for.
+use Rattle.std.specs.Prelude.{Result, Ok, Err}
 use Prim.Native.Nat.{ℕ, ◌+◌, ◌*◌, ◌/◌, ◌%◌, ◌^◌, ◌≤◌, ◌<◌}
 use mathlib.Core.Path.{◌≡◌, refl, sym, ap, ◌∙◌}
 use mathlib.Core.Bool.{Bool, true, false, cond}
@@ -11,17 +12,19 @@ use lib.Seq.{sets}
 use lib.Dec.{ltb, leb}
 use borrow.Author.Tests.{eq-eqb, ne_eqb, lt-ltb, le-ltb, ltb-true, ltb-false, leb-true}
 use Rattle.error.specs.declared.Refusal.{Refusal}
-use Rattle.error.specs.declared.Refusal.TheVariants.{NoSpace, Overflow}
+use Rattle.error.specs.declared.Refusal.TheVariants.{NoSpace}
 use Rattle.error.specs.Numbers.{max64}
 use Rattle.machine.specs.declared.Machine.{Machine}
-use Rattle.table.specs.declared.Outcome.{Outcome}
-use Rattle.table.specs.Says.{outcome_says}
-use Rattle.machine.specs.Step.{fresh_machine}
-use Rattle.lines.specs.declared.Written.{Written}
-use Rattle.lines.specs.declared.Written.TheVariants as W
-use Rattle.transcript.specs.declared.Part.{Part}
-use Rattle.transcript.specs.declared.Replayed.{Replayed}
+use Rattle.error.specs.Numbers.{number_of}
+use Rattle.table.specs.declared.Reason.{Reason}
+use Rattle.table.specs.declared.Values.{Values}
+use Rattle.table.specs.Table.{refusal_of}
+use Rattle.table.specs.Says.{Outcome, outcome_says}
 use Rattle.lines.specs.Says.{written_says}
+use lib.Signed.{mag}
+use Rattle.machine.specs.Step.{fresh_machine}
+use Rattle.transcript.specs.declared.Replayed.{Replayed}
+use Rattle.std.specs.Result.{result_unwrap_or}
 use Rattle.lines.specs.declared.label.Label.{Label}
 use Rattle.lines.specs.Text.{decimal, signed, values_text, line_text, end_text, tail_text, input_text}
 use Rattle.lines.specs.Buffer.{fits, put_of, written_of, roomy_put, roomy_written, line_room, rest_room}
@@ -29,29 +32,39 @@ use Rattle.lines.specs.Naming.{label_text, underneath, label_put, label_written,
 use Rattle.lines.specs.Writing.{Put}
 use Rattle.transcript.specs.Room.{Labelled, Replays, rest_of}
 use Rattle.transcript.specs.Replay.{machine_after, outcome_text, whole_records, lines_from, last_text, last_of, text_from, trace_text}
-use Rattle.transcript.specs.Buffer.{part_refused, part_of, part_buffer, last_room, room_for, replay_of, replayed_of, most_bytes}
+use Rattle.transcript.specs.Buffer.{last_room, room_for, replay_of, replayed_of, most_bytes}
 use Rattle.lines.proofs.Decimal.{some_digits, size_64}
-use Rattle.lines.proofs.Sizes.{line_size, end_room_lem, tail_size}
+use Rattle.lines.proofs.Sizes.{line_size, rest_room_lem, end_room_lem, tail_size}
 use Rattle.lines.proofs.Named.{named_text, underneath_short, covered}
 use Rattle.lines.proofs.Stores.{then, in_parts}
 use Rattle.lines.proofs.Whole.{accepted, put, refused, kept, roomy, put_length}
+use Rattle.error.specs.Said.{number_in}
 
 -- a text that was written where it fits
-pub stands : (buffer : List ℕ) (at : ℕ) (text : List ℕ) {now : List ℕ} {written : Written} {end : ℕ} → at + length text ≤ length buffer → written ≡ written_of buffer at text → now ≡ put_of buffer at text → end ≡ (written_says written).value → Put buffer now at end text
-unfolding written_says
+pub stands : (buffer : List ℕ) (at : ℕ) (text : List ℕ) {now : List ℕ} {written : Result ℕ Refusal} {end : ℕ} → at + length text ≤ length buffer → written ≡ written_of buffer at text → now ≡ put_of buffer at text → end ≡ result_unwrap_or written 0 → Put buffer now at end text
+unfolding number_in
 stands buffer at text h ew en ee = record { next = rw (ee, ew, accepted buffer at text h) refl; bytes = en ∙ put buffer at text h }
 
 -- what follows the number, put where the longest has room
-pub rest_stands : (o : Outcome) {buffer now : List ℕ} {at end x y : ℕ} {code : ℤ} {written : Written} → code ≡ (outcome_says o).number → x ≡ (outcome_says o).value.x → y ≡ (outcome_says o).value.y → length (values_text code x y) ≤ rest_room → at + rest_room ≤ length buffer → written ≡ roomy_written rest_room buffer at (values_text code x y) → now ≡ roomy_put rest_room buffer at (values_text code x y) → end ≡ (written_says written).value → Put buffer now at end (rest_of o) × (end ≤ at + rest_room)
-unfolding rest_of written_says
+pub rest_stands : (o : Outcome) {buffer now : List ℕ} {at end x y : ℕ} {code : ℤ} {written : Result ℕ Refusal} → code ≡ (outcome_says o).number → x ≡ (outcome_says o).value.x → y ≡ (outcome_says o).value.y → length (values_text code x y) ≤ rest_room → at + rest_room ≤ length buffer → written ≡ roomy_written rest_room buffer at (values_text code x y) → now ≡ roomy_put rest_room buffer at (values_text code x y) → end ≡ result_unwrap_or written 0 → Put buffer now at end (rest_of o) × (end ≤ at + rest_room)
+unfolding rest_of number_in
 rest_stands o {buffer = buffer} {now = now} {at = at} {end = end} {x = x} {y = y} {code = code} ec ex ey short room ew en ee =
     let there = roomy buffer at (values_text code x y) rest_room room in
     let line : Put buffer now at end (values_text code x y) = record { next = rw (ee, ew, there.0) refl; bytes = en ∙ there.1 } in
     (rw (← ec, ← ex, ← ey) line, let next = line.next in omega arith)
 
+-- the same of a step that was accepted, and of one that was turned away
+pub told_stands : {told : Values} {buffer now : List ℕ} {at end x y : ℕ} {written : Result ℕ Refusal} → x ≡ told.x → y ≡ told.y → x < 2 ^ 64 → y < 2 ^ 64 → at + rest_room ≤ length buffer → written ≡ roomy_written rest_room buffer at (values_text (pos 0) x y) → now ≡ roomy_put rest_room buffer at (values_text (pos 0) x y) → end ≡ result_unwrap_or written 0 → Put buffer now at end (rest_of (Ok told)) × (end ≤ at + rest_room)
+unfolding outcome_says
+told_stands {told = told} {x = x} {y = y} ex ey few small room ew en ee = rest_stands (Ok told) refl ex ey (rest_room_lem (pos 0) x y (omega arith) few small) room ew en ee
+
+pub refused_stands : {o : Outcome} {why : Reason} {code : ℤ} {buffer now : List ℕ} {at end : ℕ} {written : Result ℕ Refusal} → o ≡ Err why → code ≡ number_of (refusal_of why) → mag code < 2 ^ 31 → at + rest_room ≤ length buffer → written ≡ roomy_written rest_room buffer at (values_text code 0 0) → now ≡ roomy_put rest_room buffer at (values_text code 0 0) → end ≡ result_unwrap_or written 0 → Put buffer now at end (rest_of o) × (end ≤ at + rest_room)
+unfolding outcome_says
+refused_stands {why = why} {code = code} e is small room ew en ee = rw e (rest_stands (Err why) is refl refl (rest_room_lem code 0 0 small (omega arith) (omega arith)) room ew en ee)
+
 -- a label, put where the longest line has room
-pub label_stands : {buffer now : List ℕ} {at end : ℕ} (l : Label) {written : Written} → at + line_room ≤ length buffer → written ≡ label_written buffer at l → now ≡ label_put buffer at l → end ≡ (written_says written).value → Labelled buffer now at end l
-unfolding roomy_written label_put written_says
+pub label_stands : {buffer now : List ℕ} {at end : ℕ} (l : Label) {written : Result ℕ Refusal} → at + line_room ≤ length buffer → written ≡ label_written buffer at l → now ≡ label_put buffer at l → end ≡ result_unwrap_or written 0 → Labelled buffer now at end l
+unfolding roomy_written label_put number_in
 label_stands {buffer = buffer} {at = at} l room ew en ee =
     let there = le-ltb (length buffer) (at + line_room) room in
     record { put = record { next = rw (ee, ew, there) refl; bytes = en ∙ rw there refl } }
@@ -94,20 +107,11 @@ label_room l n named small =
     let size = ap length (named_text l n named small) ∙ length-append (decimal n) (32 ∷ []) in
     omega (arith, size_64 n (omega arith))
 
--- the place that is answered is within the buffer
-pub accepted_within : {end room : ℕ} → end ≤ room → (written_says (W.Accepted end)).value ≤ room
-unfolding written_says
-accepted_within h = h
-
-pub refused_within : (why : Refusal) {room : ℕ} → (written_says (W.Refused why)).value ≤ room
-unfolding written_says
-refused_within why = omega arith
-
-pub within : (buffer : List ℕ) (at : ℕ) (text : List ℕ) {now : List ℕ} {written : Written} → written ≡ written_of buffer at text → now ≡ put_of buffer at text → (written_says written).value ≤ length now
-unfolding written_of written_says fits
+pub within : (buffer : List ℕ) (at : ℕ) (text : List ℕ) {now : List ℕ} {written : Result ℕ Refusal} → written ≡ written_of buffer at text → now ≡ put_of buffer at text → (written_says written).value ≤ length now
+unfolding written_of number_in fits
 within buffer at text {now} {written} ew en = rw (ew, en, put_length buffer at text) (by_test (leb (at + length text) (length buffer)) refl)
   where
-    by_test : (t : Bool) → leb (at + length text) (length buffer) ≡ t → (written_says (cond t (W.Accepted (at + length text)) (W.Refused NoSpace))).value ≤ length buffer
+    by_test : (t : Bool) → leb (at + length text) (length buffer) ≡ t → (written_says (cond t (Ok (at + length text)) (Err NoSpace))).value ≤ length buffer
     by_test true e = leb-true _ _ e
     by_test false e = omega arith
 
@@ -123,10 +127,10 @@ module _ (left cycles reading : ℕ) where
 
 -- the last lines, put where they have room: the place after them, and the buffer
 module _ (out : List ℕ) (at cycles reading : ℕ) (few : cycles < 2 ^ 64) (small : reading < 2 ^ 64) (room : at + last_room ≤ length out) where
-  end_put : Put out (put_of out at (end_text cycles reading)) at (written_says (written_of out at (end_text cycles reading))).value (end_text cycles reading)
+  end_put : Put out (put_of out at (end_text cycles reading)) at (result_unwrap_or (written_of out at (end_text cycles reading)) 0) (end_text cycles reading)
   end_put = let size = end_room_lem cycles reading few small in stands out at (end_text cycles reading) (omega (arith, tail_size)) refl refl refl
 
-  pub end_within : (written_says (written_of out at (end_text cycles reading))).value ≤ at + last_room
+  pub end_within : (result_unwrap_or (written_of out at (end_text cycles reading)) 0) ≤ at + last_room
   end_within = let size = end_room_lem cycles reading few small in omega (arith, tail_size, end_put.next)
 
   -- the tail first
@@ -134,34 +138,34 @@ module _ (out : List ℕ) (at cycles reading : ℕ) (few : cycles < 2 ^ 64) (sma
   tailed = put_of out at tail_text
 
   abbrev second : ℕ
-  second = (written_says (written_of out at tail_text)).value
+  second = (result_unwrap_or (written_of out at tail_text) 0)
 
   tail_put : Put out tailed at second tail_text
   tail_put = stands out at tail_text (omega (arith, tail_size)) refl refl refl
 
-  end_after : Put tailed (put_of tailed second (end_text cycles reading)) second (written_says (written_of tailed second (end_text cycles reading))).value (end_text cycles reading)
+  end_after : Put tailed (put_of tailed second (end_text cycles reading)) second (result_unwrap_or (written_of tailed second (end_text cycles reading)) 0) (end_text cycles reading)
   end_after =
       let size = end_room_lem cycles reading few small in
       stands tailed second (end_text cycles reading) (omega (arith, tail_size, tail_put.next, put_length out at tail_text)) refl refl refl
 
-  pub both_within : (written_says (written_of tailed second (end_text cycles reading))).value ≤ at + last_room
+  pub both_within : (result_unwrap_or (written_of tailed second (end_text cycles reading)) 0) ≤ at + last_room
   both_within = let size = end_room_lem cycles reading few small in omega (arith, tail_size, tail_put.next, end_after.next)
 
   module _ (left : ℕ) (none : left ≡ 0) where
-    alone : Put out (put_of out at (end_text cycles reading)) at (written_says (written_of out at (end_text cycles reading))).value (last_text left cycles reading)
+    alone : Put out (put_of out at (end_text cycles reading)) at (result_unwrap_or (written_of out at (end_text cycles reading)) 0) (last_text left cycles reading)
     alone = rw (none_left left cycles reading none) end_put
 
-    pub end_next : (written_says (written_of out at (end_text cycles reading))).value ≡ at + length (last_text left cycles reading)
+    pub end_next : (result_unwrap_or (written_of out at (end_text cycles reading)) 0) ≡ at + length (last_text left cycles reading)
     end_next = alone.next
 
     pub end_bytes : put_of out at (end_text cycles reading) ≡ sets out at (last_text left cycles reading)
     end_bytes = alone.bytes
 
   module _ (left : ℕ) (some : left ≡ 0 → ⊥) where
-    both : Put out (put_of tailed second (end_text cycles reading)) at (written_says (written_of tailed second (end_text cycles reading))).value (last_text left cycles reading)
+    both : Put out (put_of tailed second (end_text cycles reading)) at (result_unwrap_or (written_of tailed second (end_text cycles reading)) 0) (last_text left cycles reading)
     both = rw (some_left left cycles reading some) (then tail_text (end_text cycles reading) tail_put end_after)
 
-    pub both_next : (written_says (written_of tailed second (end_text cycles reading))).value ≡ at + length (last_text left cycles reading)
+    pub both_next : (result_unwrap_or (written_of tailed second (end_text cycles reading)) 0) ≡ at + length (last_text left cycles reading)
     both_next = both.next
 
     pub both_bytes : put_of tailed second (end_text cycles reading) ≡ sets out at (last_text left cycles reading)
@@ -183,25 +187,25 @@ module _ (slots : ℕ) (s out : List ℕ) where
     where
       by_test : (t : Bool) → ltb (length out) (length input_text) ≡ t → (written_of out 0 input_text ≡ replay_of slots s out) × (put_of out 0 input_text ≡ replayed_of slots s out)
       by_test true e = let lacks = ltb-true (length out) (length input_text) e in (simp (lt-ltb _ _ h, e) (refused out 0 input_text (omega arith)), simp (lt-ltb _ _ h, e) (kept out 0 input_text (omega arith)))
-      by_test false e = let has = ltb-false (length out) (length input_text) e in (simp (lt-ltb _ _ h, e) (accepted out 0 input_text (omega arith) ∙ ap W.Accepted (zero-add (length input_text))), simp (lt-ltb _ _ h, e) (put out 0 input_text (omega arith)))
+      by_test false e = let has = ltb-false (length out) (length input_text) e in (simp (lt-ltb _ _ h, e) (accepted out 0 input_text (omega arith) ∙ ap Ok (zero-add (length input_text))), simp (lt-ltb _ _ h, e) (put out 0 input_text (omega arith)))
 
   -- and so of what is put there
-  pub large_answer : {written : Written} → most_bytes < length s → written ≡ written_of out 0 input_text → written ≡ replay_of slots s out
+  pub large_answer : {written : Result ℕ Refusal} → most_bytes < length s → written ≡ written_of out 0 input_text → written ≡ replay_of slots s out
   large_answer h e = e ∙ (large h).0
 
   pub large_buffer : {now : List ℕ} → most_bytes < length s → now ≡ put_of out 0 input_text → now ≡ replayed_of slots s out
   large_buffer h e = e ∙ (large h).1
 
   -- too little room for any text of so many bytes
-  pub no_room : length out < room_for (length s) → (W.Refused NoSpace ≡ replay_of slots s out) × (out ≡ replayed_of slots s out)
+  pub no_room : length out < room_for (length s) → (Err NoSpace ≡ replay_of slots s out) × (out ≡ replayed_of slots s out)
   unfolding replay_of replayed_of
   no_room h = (simp (lt-ltb _ _ h), simp (lt-ltb _ _ h))
 
-  pub whole : {now : List ℕ} {end : ℕ} → length s ≤ most_bytes → room_for (length s) ≤ length out → Put out now 0 end (text_from (fresh_machine slots) s) → (W.Accepted end ≡ replay_of slots s out) × (now ≡ replayed_of slots s out)
+  pub whole : {now : List ℕ} {end : ℕ} → length s ≤ most_bytes → room_for (length s) ≤ length out → Put out now 0 end (text_from (fresh_machine slots) s) → (Ok end ≡ replay_of slots s out) × (now ≡ replayed_of slots s out)
   unfolding replay_of replayed_of trace_text
-  whole few h p = (simp (le-ltb _ _ h, le-ltb _ _ few) (ap W.Accepted (p.next ∙ zero-add (length (text_from (fresh_machine slots) s)))), simp (le-ltb _ _ h, le-ltb _ _ few) p.bytes)
+  whole few h p = (simp (le-ltb _ _ h, le-ltb _ _ few) (ap Ok (p.next ∙ zero-add (length (text_from (fresh_machine slots) s)))), simp (le-ltb _ _ h, le-ltb _ _ few) p.bytes)
 
-  pub whole_answer : length s ≤ most_bytes → room_for (length s) ≤ length out → W.Accepted (length (text_from (fresh_machine slots) s)) ≡ replay_of slots s out
+  pub whole_answer : length s ≤ most_bytes → room_for (length s) ≤ length out → Ok (length (text_from (fresh_machine slots) s)) ≡ replay_of slots s out
   whole_answer few h = (whole few h (record { next = sym (zero-add (length (text_from (fresh_machine slots) s))); bytes = refl })).0
 
   pub whole_buffer : {now : List ℕ} → length s ≤ most_bytes → room_for (length s) ≤ length out → now ≡ sets out 0 (text_from (fresh_machine slots) s) → now ≡ replayed_of slots s out
@@ -211,18 +215,3 @@ module _ (slots : ℕ) (s out : List ℕ) where
 pub asked : (bytes : ℕ) → bytes ≤ most_bytes → room_for bytes ≡ bytes / 16 * line_room + last_room
 unfolding room_for
 asked bytes h = simp (le-ltb _ _ h)
-
--- a part of a trace: numbers that would not fit, too little room, and the lines
-module _ (m : Machine) (first : ℕ) (s out : List ℕ) (at : ℕ) where
-  pub too_many : {p : Part} → p ≡ part_refused m Overflow → max64 < first + length s / 16 → (p ≡ part_of m first s out at) × (out ≡ part_buffer m first s out at)
-  unfolding part_of part_buffer
-  too_many e h = (e ∙ simp (lt-ltb _ _ h), simp (lt-ltb _ _ h))
-
-  module _ (numbers : first + length s / 16 ≤ max64) where
-    pub too_little : {p : Part} → p ≡ part_refused m NoSpace → length out < at + length s / 16 * line_room → (p ≡ part_of m first s out at) × (out ≡ part_buffer m first s out at)
-    unfolding part_of part_buffer
-    too_little e h = (e ∙ simp (le-ltb _ _ numbers, lt-ltb _ _ h), simp (le-ltb _ _ numbers, lt-ltb _ _ h))
-
-    pub lines_put : {now : List ℕ} {r : Replayed} → at + length s / 16 * line_room ≤ length out → Replays m first (length s / 16) s out now at r → (record { written = W.Accepted r.end; machine = r.machine } ≡ part_of m first s out at) × (now ≡ part_buffer m first s out at)
-    unfolding part_of part_buffer
-    lines_put h lines = (simp (le-ltb _ _ numbers, le-ltb _ _ h, lines.end, lines.machine), simp (le-ltb _ _ numbers, le-ltb _ _ h) lines.bytes)

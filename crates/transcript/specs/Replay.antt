@@ -1,8 +1,8 @@
 -- Believed: a trace's text. A line for each whole record, from any machine and record number, and the lines that end it.
 use Rattle.std.specs.Prelude.{ℕ, zero, suc, ◌+◌, ◌/◌, ◌%◌, cond, List, [], ◌∷◌, ◌++◌, length, ltb, eqb}
-use Rattle.trace.specs.declared.Decoded.{Decoded}
+use Rattle.trace.specs.Decode.{Decoded}
 use Rattle.trace.specs.Decode.{decode_of}
-use Rattle.table.specs.declared.Outcome.{Outcome}
+use Rattle.table.specs.Says.{Outcome}
 use Rattle.table.specs.Says.{outcome_says}
 use Rattle.machine.specs.declared.Machine.{Machine}
 use Rattle.machine.specs.Step.{fresh_machine, step_of}

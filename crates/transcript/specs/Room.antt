@@ -1,12 +1,9 @@
 -- Inside: what the loop's private workers answer and ask of their caller, and what the records' lines leave.
-use Rattle.std.specs.Prelude.{ℕ, ◌+◌, ◌*◌, ◌/◌, ◌≤◌, ◌≡◌, cond, List, length, ltb}
+use Rattle.std.specs.Prelude.{ℕ, ◌+◌, ◌*◌, ◌/◌, ◌≤◌, ◌≡◌, List, length}
 use Rattle.std.proofs.lemmas.List.Edits.{sets}
 use Rattle.error.specs.Numbers.{max64}
-use Rattle.usage.specs.declared.ThreadUsage.{ThreadUsage}
-use Rattle.table.specs.declared.Core.{Core}
-use Rattle.table.specs.declared.Outcome.{Outcome}
-use Rattle.table.specs.declared.Outcome.TheVariants as O
-use Rattle.table.specs.Says.{values, outcome_says}
+use Rattle.table.specs.Says.{Outcome}
+use Rattle.table.specs.Says.{outcome_says}
 use Rattle.machine.specs.declared.Machine.{Machine}
 use Rattle.lines.specs.declared.label.Label.{Label}
 use Rattle.lines.specs.Buffer.{line_room}
@@ -16,18 +13,6 @@ use Rattle.lines.specs.Text.{values_text}
 use Rattle.transcript.specs.declared.Replayed.{Replayed}
 use Rattle.transcript.specs.Replay.{records_from, machine_after, lines_from}
 use Rattle.transcript.specs.Buffer.{last_room, most_bytes}
-
--- accepted, with x and y
-abbrev pub told : ℕ → ℕ → Outcome
-told x y = O.Accepted (values x y)
-
--- a thread's slot in a table of so many
-unfoldable pub slot_of : ℕ → ℕ → ℕ
-slot_of i slots = cond (ltb i slots) i 0
-
--- the machine whose parts the loop keeps
-abbrev pub machine_of : Core → List ThreadUsage → Machine
-machine_of c threads = record { ready = c.ready; timer = c.timer; ledger = record { books = c.books; threads = threads } }
 
 -- the label stands in the buffer over what was put underneath it, and `end` is the place after it
 pub record Labelled (before now : List ℕ) (at end : ℕ) (l : Label) : Type 0 where

@@ -1,27 +1,23 @@
 // A trace's text: a line for each record, from any machine and number, and the lines that end it.
 #![tactic(auto)]
 
-ghost use Rattle.std.specs.Prelude.{◌≡◌, cond, ◌+◌, ◌*◌, ◌≤◌, length, ltb};
-ghost use Rattle.table.specs.declared.Outcome.TheVariants as O;
+ghost use Rattle.std.specs.Prelude.{◌≡◌, cond, Ok, ◌+◌, ◌*◌, ◌≤◌, length, ltb};
 ghost use Rattle.machine.specs.Step.{fresh_machine};
 ghost use Rattle.lines.specs.Says.{written_says};
 ghost use Rattle.lines.specs.Buffer.{line_room, rest_room};
 ghost use Rattle.lines.specs.Writing.{Put};
-ghost use Rattle.transcript.specs.Room.{told, slot_of, machine_of, Labelled, HasRoom, Replays, Fits, rest_of};
+ghost use Rattle.transcript.specs.Room.{Labelled, HasRoom, Replays, Fits, rest_of};
 ghost use Rattle.transcript.specs.Replay.{last_text, text_from};
 ghost use Rattle.transcript.specs.Buffer.{part_refused, part_of, part_buffer, last_room, room_for, replay_of, replayed_of};
 
-use books::{Books, Entered};
 use clock::{Clock, Timer};
 use counter::Counter;
 use error::Refusal;
-use ledger::{Ledger, ThreadReport};
 use lines::label::{Label, put_label};
-use lines::{LINE_ROOM, Written, put_end, put_input, put_refusal, put_tail, put_values};
+use lines::{LINE_ROOM, put_end, put_input, put_refusal, put_tail, put_values};
 use machine::Machine;
-use table::changes::Change;
-use table::{Core, Reason, malformed};
-use units::Cycles;
+use table::changes::change_at;
+use table::{Core, Reason, Values, malformed};
 use usage::ThreadUsage;
 
 // The most bytes that a trace may have.
@@ -37,7 +33,7 @@ pub const MOST_ROOM: usize = MOST_BYTES / 16 * LINE_ROOM + LAST_ROOM;
 
 #[derive(Clone, Copy)]
 pub struct Part {
-    pub written: Written,
+    pub written: Result<usize, Refusal>,
     pub machine: Machine,
 }
 
@@ -53,43 +49,56 @@ fn put_line_number(out: &mut [u8], at: usize, label: Label) -> usize
     requires { at + line_room ≤ length out.old }
     ensures { Labelled out.old out.new at result label }
 {
-    put_label(out, at, label).end()
+    put_label(out, at, label).unwrap_or(0)
 }
 
-#[tactic(auto, unfolding(crate::specs::Room::rest_of))]
-fn put_refused(out: &mut [u8], at: usize, why: Reason) -> usize
+// Many records are runs, which have nothing to tell. Their two zeros are written as constants: with `put_values` alone
+// a record of a long trace takes 15 instructions more of 194.
+fn put_told(out: &mut [u8], at: usize, told: Values) -> usize
     requires { at + rest_room ≤ length out.old }
-    ensures text { Put out.old out.new at result (rest_of (O.Refused why)) }
+    ensures text { Put out.old out.new at result (rest_of (Ok told)) }
     ensures room { result ≤ at + rest_room }
 {
-    let code = why.refusal().number();
-    put_refusal(out, at, code).end()
-}
-
-#[tactic(auto, unfolding(crate::specs::Room::rest_of))]
-fn put_told(out: &mut [u8], at: usize, x: u64, y: u64) -> usize
-    requires { at + rest_room ≤ length out.old }
-    ensures text { Put out.old out.new at result (rest_of (told x y)) }
-    ensures room { result ≤ at + rest_room }
-{
-    put_values(out, at, x, y).end()
-}
-
-// A thread's slot; the first for a thread past the table, of which no record asks.
-#[tactic(auto, unfolding(crate::specs::Room::slot_of))]
-fn slot(thread: u32, slots: usize) -> usize
-    ensures { result ≡ slot_of thread slots }
-{
-    let k = thread as usize;
-    if k < slots {
-        return k;
+    if told.x == 0 && told.y == 0 {
+        return put_values(out, at, 0, 0).unwrap_or(0);
     }
-    0
+    put_values(out, at, told.x, told.y).unwrap_or(0)
 }
 
-// The lines of so many records. The state stays in place, and each record writes only the parts of it that are new:
-// counter and clock, the books, one thread record, or all at setup. Whether it is malformed is asked once, since no
-// record makes it so. It is one function, since the checker that it was written for let none with branches be lent the state.
+fn put_outcome(out: &mut [u8], at: usize, outcome: Result<Values, Reason>) -> usize
+    requires { at + rest_room ≤ length out.old }
+    ensures text { Put out.old out.new at result (rest_of outcome) }
+    ensures room { result ≤ at + rest_room }
+{
+    match outcome {
+        Ok(told) => put_told(out, at, told),
+        Err(why) => put_refusal(out, at, why.refusal().number()).unwrap_or(0),
+    }
+}
+
+// The same core, built field by field. A copy of a whole struct takes along the unused bytes between its fields, which
+// would then go through memory from record to record: with `core` itself at both places below a record of a long trace
+// takes 39 instructions more of 194. Since only this reads the core, `machine::make` can set a timer or a core whole.
+fn core_afresh(core: Core) -> Core
+    ensures { result ≡ core }
+{
+    let Core {
+        ready,
+        timer: Timer { counter, clock },
+        books,
+    } = core;
+    Core {
+        ready,
+        timer: Timer {
+            counter: Counter { ..counter },
+            clock: Clock { ..clock },
+        },
+        books,
+    }
+}
+
+// The lines of so many records. The state stays in place: each record writes only the parts of it that are new. Whether
+// it is malformed is asked once, since no record makes it so.
 fn put_records(
     machine: Machine,
     first: u64,
@@ -101,154 +110,21 @@ fn put_records(
     requires { HasRoom first count out.old at }
     ensures { Replays machine first count trace.now out.old out.new at result }
 {
-    let mut core = core_afresh(machine.core());
-    let broken = malformed(core, ThreadUsage::SLOTS);
+    let mut core = machine.core();
     let mut threads = machine.ledger.threads;
+    let broken = malformed(core, ThreadUsage::SLOTS);
     let mut label = Label::of(first);
-    let mut left = count;
-    let mut from: usize = 0;
     let mut end = at;
-    while 0 < left {
+    for k in 0..count {
         let second = put_line_number(out, end, label);
-        let place = from;
         label = label.next();
-        from = from + 16;
-        left = left - 1;
-        let change = table::changes::change_at(broken, core, ThreadUsage::SLOTS, trace, place);
-        match change {
-            Change::Refused(why) => {
-                end = put_refused(out, second, why);
-            }
-            Change::Ran(counter) => {
-                let clock = core.timer.clock;
-                let after = timer_of(counter, clock);
-                core.timer = after;
-                end = put_told(out, second, 0, 0);
-            }
-            Change::Told(timer, told) => {
-                let after = timer_afresh(timer);
-                core.timer = after;
-                end = put_told(out, second, told.x, told.y);
-            }
-            Change::Enter(timer, operation, reading) => {
-                let after = timer_afresh(timer);
-                core.timer = after;
-                let books = core.books;
-                let k = slot(books::concerned(books, operation), ThreadUsage::SLOTS);
-                let usage = threads[k];
-                let entered = books::enter(books, usage, reading, operation);
-                match entered {
-                    Entered::Accepted(entry) => {
-                        let booked = books_afresh(entry.books);
-                        let changed = usage_afresh(entry.usage);
-                        core.books = booked;
-                        threads[k] = changed;
-                        end = put_told(out, second, entry.cycles as u64, 0);
-                    }
-                    Entered::Refused(_) => {
-                        end = put_refused(out, second, Reason::WontFit);
-                    }
-                }
-            }
-            Change::Report(thread) => {
-                let k = slot(thread, ThreadUsage::SLOTS);
-                let usage = threads[k];
-                let told = machine::report_values(ThreadReport::of(usage));
-                end = put_told(out, second, told.x, told.y);
-            }
-            Change::Fresh(timer) => {
-                let after = timer_afresh(timer);
-                let books = books::nothing_booked();
-                core = Core {
-                    ready: true,
-                    timer: after,
-                    books: books,
-                };
-                threads = [ThreadUsage::new_idle(); ThreadUsage::SLOTS];
-                end = put_told(out, second, 0, 0);
-            }
-        }
+        let change = change_at(broken, core_afresh(core), ThreadUsage::SLOTS, trace, 16 * k);
+        let outcome = machine::make(&mut core, &mut threads, change);
+        end = put_outcome(out, second, outcome);
     }
     Replayed {
-        end: end,
-        machine: together(core, threads),
-    }
-}
-
-// Parts of the state, put together from their numbers. A copy would take along the unused bytes between them: the core's
-// from the machine handed in, the others' from record to record.
-fn usage_afresh(usage: ThreadUsage) -> ThreadUsage
-    ensures { result ≡ usage }
-{
-    ThreadUsage {
-        track_usage: usage.track_usage,
-        total_cycles: Cycles(usage.total_cycles.0),
-        num_windows: usage.num_windows,
-    }
-}
-
-fn timer_of(counter: Counter, clock: Clock) -> Timer
-    ensures { result ≡ record { counter = counter; clock = clock } }
-{
-    Timer {
-        counter: Counter {
-            period: counter.period,
-            value: counter.value,
-            flag: counter.flag,
-            cycles: Cycles(counter.cycles.0),
-        },
-        clock: Clock {
-            tick: clock.tick,
-            count: Cycles(clock.count.0),
-            announced: Cycles(clock.announced.0),
-            overflow: clock.overflow,
-            last: Cycles(clock.last.0),
-        },
-    }
-}
-
-fn timer_afresh(timer: Timer) -> Timer
-    ensures { result ≡ timer }
-{
-    let counter = timer.counter;
-    let clock = timer.clock;
-    timer_of(counter, clock)
-}
-
-fn books_afresh(books: Books) -> Books
-    ensures { result ≡ books }
-{
-    Books {
-        stamp: books.stamp,
-        running: books.running,
-        total: Cycles(books.total.0),
-    }
-}
-
-fn core_afresh(core: Core) -> Core
-    ensures { result ≡ core }
-{
-    let timer = core.timer;
-    let books = core.books;
-    Core {
-        ready: core.ready,
-        timer: timer_afresh(timer),
-        books: books_afresh(books),
-    }
-}
-
-fn together(core: Core, threads: [ThreadUsage; ThreadUsage::SLOTS]) -> Machine
-    ensures { result ≡ machine_of core threads }
-{
-    let timer = core.timer;
-    let books = core.books;
-    Machine {
-        ready: core.ready,
-        timer: timer,
-        ledger: Ledger {
-            books: books,
-            threads: threads,
-        },
+        end,
+        machine: Machine::of(core_afresh(core), threads),
     }
 }
 
@@ -267,11 +143,10 @@ pub fn put_part(machine: Machine, first: u64, trace: &[u8], out: &mut [u8], at: 
     if lacks_lines(out.len(), at, count) {
         return turned_away(machine, Refusal::NoSpace);
     }
-    let replayed = put_records(machine, first, count, trace, out, at);
-    let after = replayed.machine;
+    let Replayed { end, machine } = put_records(machine, first, count, trace, out, at);
     Part {
-        written: Written::Accepted(replayed.end),
-        machine: after,
+        written: Ok(end),
+        machine,
     }
 }
 
@@ -279,8 +154,8 @@ fn turned_away(machine: Machine, why: Refusal) -> Part
     ensures { result ≡ part_refused machine why }
 {
     Part {
-        written: Written::Refused(why),
-        machine: machine,
+        written: Err(why),
+        machine,
     }
 }
 
@@ -304,10 +179,10 @@ fn put_last(out: &mut [u8], at: usize, left: usize, cycles: u64, reading: u64) -
     ensures room { result ≤ at + last_room }
 {
     if left == 0 {
-        return put_end(out, at, cycles, reading).end();
+        return put_end(out, at, cycles, reading).unwrap_or(0);
     }
-    let second = put_tail(out, at).end();
-    put_end(out, second, cycles, reading).end()
+    let second = put_tail(out, at).unwrap_or(0);
+    put_end(out, second, cycles, reading).unwrap_or(0)
 }
 
 // Room enough for the text of any trace of so many bytes.
@@ -338,18 +213,16 @@ fn put_whole(trace: &[u8], out: &mut [u8]) -> usize
     let size = trace.len();
     let count = size / 16;
     let left = size % 16;
-    let replayed = put_records(machine::fresh(), 0, count, trace, out, 0);
-    let ready = replayed.machine.ready;
-    let timer = replayed.machine.timer;
-    let cycles = if_ready(ready, timer.counter.cycles.0);
-    let reading = if_ready(ready, timer.clock.last.0);
-    put_last(out, replayed.end, left, cycles, reading)
+    let Replayed { end, machine } = put_records(machine::fresh(), 0, count, trace, out, 0);
+    let cycles = if_ready(machine.ready, machine.timer.counter.cycles.0);
+    let reading = if_ready(machine.ready, machine.timer.clock.last.0);
+    put_last(out, end, left, cycles, reading)
 }
 
 // The whole text of a trace, from the buffer's first byte on. Room is asked for the longest text that so many bytes can
 // have, so that nothing is written where it may not suffice.
-#[tactic(auto, using(crate::proofs::Texts::large_answer, crate::proofs::Texts::large_buffer, crate::proofs::Texts::within, crate::proofs::Texts::asked, crate::proofs::Texts::whole_answer, crate::proofs::Texts::whole_buffer), unfolding(lines::specs::Says::written_says, crate::specs::Buffer::replay_of, crate::specs::Buffer::replayed_of))]
-pub fn replay(trace: &[u8], out: &mut [u8]) -> Written
+#[tactic(auto, using(crate::proofs::Texts::large_answer, crate::proofs::Texts::large_buffer, crate::proofs::Texts::within, crate::proofs::Texts::asked, crate::proofs::Texts::whole_answer, crate::proofs::Texts::whole_buffer), unfolding(error::specs::Said::number_in, crate::specs::Buffer::replay_of, crate::specs::Buffer::replayed_of))]
+pub fn replay(trace: &[u8], out: &mut [u8]) -> Result<usize, Refusal>
     ensures answer { result ≡ replay_of ThreadUsage.SLOTS trace.now out.old }
     ensures buffer { out.new ≡ replayed_of ThreadUsage.SLOTS trace.now out.old }
     ensures room { (written_says result).value ≤ length out.new }
@@ -360,7 +233,7 @@ pub fn replay(trace: &[u8], out: &mut [u8]) -> Written
     }
     let needed = room_for(size);
     if out.len() < needed {
-        return Written::Refused(Refusal::NoSpace);
+        return Err(Refusal::NoSpace);
     }
-    Written::Accepted(put_whole(trace, out))
+    Ok(put_whole(trace, out))
 }

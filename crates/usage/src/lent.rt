@@ -1,33 +1,33 @@
 // Upstream's methods: a thread record that is lent and changed in place, each thin over the by-value function.
 ghost use Rattle.std.specs.Prelude.{◌≡◌};
-ghost use Rattle.usage.specs.Says.{enable_outcome, disable_outcome, accumulate_outcome};
+ghost use Rattle.usage.specs.Leaves.{enabled, disabled, accumulated};
+ghost use Rattle.usage.specs.Says.{done, kept};
 
 use crate::ThreadUsage;
+use error::Refusal;
 
-// Each answers 01's number, 0 where accepted. A refusal leaves the lent record as it was.
+// A refusal leaves the lent record as it was.
+#[tactic(auto, unfolding(crate::specs::Says::done, crate::specs::Says::kept))]
 impl ThreadUsage {
-    pub fn enable(&mut self) -> i32
-        ensures { (result ≡ (enable_outcome self.old).code) × (self.new ≡ (enable_outcome self.old).usage) }
+    pub fn enable(&mut self) -> Result<(), Refusal>
+        ensures { (result ≡ done (enabled self.old)) × (self.new ≡ kept self.old (enabled self.old)) }
     {
-        let after = crate::enable_outcome(*self);
-        *self = after.usage;
-        after.code
+        *self = crate::enabled(*self)?;
+        Ok(())
     }
 
-    pub fn disable(&mut self) -> i32
-        ensures { (result ≡ (disable_outcome self.old).code) × (self.new ≡ (disable_outcome self.old).usage) }
+    pub fn disable(&mut self) -> Result<(), Refusal>
+        ensures { (result ≡ done (disabled self.old)) × (self.new ≡ kept self.old (disabled self.old)) }
     {
-        let after = crate::disable_outcome(*self);
-        *self = after.usage;
-        after.code
+        *self = crate::disabled(*self)?;
+        Ok(())
     }
 
-    pub fn accumulate(&mut self, cycles: u32) -> i32
-        ensures { (result ≡ (accumulate_outcome self.old cycles).code) × (self.new ≡ (accumulate_outcome self.old cycles).usage) }
+    pub fn accumulate(&mut self, cycles: u32) -> Result<(), Refusal>
+        ensures { (result ≡ done (accumulated self.old cycles)) × (self.new ≡ kept self.old (accumulated self.old cycles)) }
     {
-        let after = crate::accumulate_outcome(*self, cycles);
-        *self = after.usage;
-        after.code
+        *self = crate::accumulated(*self, cycles)?;
+        Ok(())
     }
 
     pub fn is_tracked(&self) -> bool

@@ -4,7 +4,7 @@
 ghost use Rattle.std.specs.Prelude.{◌≡◌};
 ghost use Rattle.usage.specs.Formulas.{new_idle, average_cycles, elapsed_stamps};
 ghost use Rattle.usage.specs.Leaves.{enabled, disabled, accumulated, sys_enable_decide, sys_disable_decide, start_decide, stop_decide};
-ghost use Rattle.usage.specs.Says.{changed_says, changed_why, outcome_of, enable_outcome, disable_outcome, accumulate_outcome, sys_track_says, start_says, stop_says};
+ghost use Rattle.usage.specs.Says.{sys_track_says, start_says, stop_says};
 
 use error::Refusal;
 use units::Cycles;
@@ -38,66 +38,6 @@ impl ThreadUsage {
     }
 }
 
-// A record changed, or the reason why not.
-#[derive(Clone, Copy)]
-pub enum Changed {
-    Accepted(ThreadUsage),
-    Refused(Refusal),
-}
-
-// A code and the record that stands after it, for whoever keeps the record in place.
-#[derive(Clone, Copy)]
-pub struct Outcome {
-    pub code: i32,
-    pub usage: ThreadUsage,
-}
-
-#[tactic(auto, unfolding(crate::specs::Says::changed_says, crate::specs::Says::changed_why, crate::specs::Says::outcome_of, crate::specs::Says::kept))]
-impl Changed {
-    pub fn number(self) -> i32
-        ensures { result ≡ (changed_says self).number }
-    {
-        match self {
-            Changed::Accepted(_) => error::OK,
-            Changed::Refused(why) => why.number(),
-        }
-    }
-
-    pub fn usage(self) -> ThreadUsage
-        ensures { result ≡ (changed_says self).value }
-    {
-        match self {
-            Changed::Accepted(usage) => usage,
-            Changed::Refused(_) => ThreadUsage::new_idle(),
-        }
-    }
-
-    // For whoever has found it refused.
-    pub fn refusal(self) -> Refusal
-        ensures { result ≡ changed_why self }
-    {
-        match self {
-            Changed::Accepted(_) => Refusal::Invalid,
-            Changed::Refused(why) => why,
-        }
-    }
-
-    fn outcome(self, before: ThreadUsage) -> Outcome
-        ensures { result ≡ outcome_of before self }
-    {
-        match self {
-            Changed::Accepted(usage) => Outcome {
-                code: error::OK,
-                usage: usage,
-            },
-            Changed::Refused(why) => Outcome {
-                code: why.number(),
-                usage: before,
-            },
-        }
-    }
-}
-
 pub fn is_tracked(usage: ThreadUsage) -> bool
     ensures { result ≡ usage.track_usage }
 {
@@ -106,66 +46,49 @@ pub fn is_tracked(usage: ThreadUsage) -> bool
 
 // Tracking set, and a window opened, unless it was set.
 #[tactic(auto, unfolding(crate::specs::Leaves::enabled))]
-pub fn enabled(usage: ThreadUsage) -> Changed
+pub fn enabled(usage: ThreadUsage) -> Result<ThreadUsage, Refusal>
     ensures { result ≡ enabled usage }
 {
     if usage.track_usage {
-        return Changed::Accepted(usage);
+        return Ok(usage);
     }
     let windows = usage.num_windows;
     if windows == ThreadUsage::MAX_WINDOWS {
-        return Changed::Refused(Refusal::Overflow);
+        return Err(Refusal::Overflow);
     }
     let mut next = usage;
     next.track_usage = true;
     next.num_windows = windows + 1;
-    Changed::Accepted(next)
+    Ok(next)
 }
 
 // Tracking cleared; the history stays.
-pub fn disabled(usage: ThreadUsage) -> Changed
+pub fn disabled(usage: ThreadUsage) -> Result<ThreadUsage, Refusal>
     ensures { result ≡ disabled usage }
 {
     let mut next = usage;
     next.track_usage = false;
-    Changed::Accepted(next)
+    Ok(next)
 }
 
 // The total never wraps: what would not fit is refused.
 #[tactic(auto, unfolding(crate::specs::Leaves::accumulated))]
-pub fn accumulated(usage: ThreadUsage, cycles: u32) -> Changed
+pub fn accumulated(usage: ThreadUsage, cycles: u32) -> Result<ThreadUsage, Refusal>
     ensures { result ≡ accumulated usage cycles }
 {
     let add = cycles as u64;
     let room = u64::MAX - add;
     if room < usage.total_cycles.0 {
-        return Changed::Refused(Refusal::Overflow);
+        return Err(Refusal::Overflow);
     }
     let new_total = usage.total_cycles.0 + add;
     let total = Cycles(new_total);
     let mut next = usage;
     next.total_cycles = total;
-    Changed::Accepted(next)
+    Ok(next)
 }
 
-pub fn enable_outcome(usage: ThreadUsage) -> Outcome
-    ensures { result ≡ enable_outcome usage }
-{
-    enabled(usage).outcome(usage)
-}
-
-pub fn disable_outcome(usage: ThreadUsage) -> Outcome
-    ensures { result ≡ disable_outcome usage }
-{
-    disabled(usage).outcome(usage)
-}
-
-pub fn accumulate_outcome(usage: ThreadUsage, cycles: u32) -> Outcome
-    ensures { result ≡ accumulate_outcome usage cycles }
-{
-    accumulated(usage, cycles).outcome(usage)
-}
-
+// The decisions bear upstream's names, one type for each question, with a reader each for C.
 #[derive(Clone, Copy)]
 pub enum SysTrackDecision {
     NoOp,
@@ -177,10 +100,7 @@ impl SysTrackDecision {
     pub fn is_apply(self) -> bool
         ensures { result ≡ (sys_track_says self).value }
     {
-        match self {
-            SysTrackDecision::NoOp => false,
-            SysTrackDecision::Apply => true,
-        }
+        matches!(self, SysTrackDecision::Apply)
     }
 }
 
@@ -217,10 +137,7 @@ impl StartDecision {
     pub fn is_record_start(self) -> bool
         ensures { result ≡ (start_says self).value }
     {
-        match self {
-            StartDecision::RecordStart => true,
-            StartDecision::RecordOnly => false,
-        }
+        matches!(self, StartDecision::RecordStart)
     }
 }
 
@@ -246,10 +163,7 @@ impl StopDecision {
     pub fn is_accumulate(self) -> bool
         ensures { result ≡ (stop_says self).value }
     {
-        match self {
-            StopDecision::Accumulate => true,
-            StopDecision::Skip => false,
-        }
+        matches!(self, StopDecision::Accumulate)
     }
 }
 

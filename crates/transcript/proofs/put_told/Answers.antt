@@ -1,30 +1,17 @@
--- `put_told` puts what follows the number in an accepted step's line.
-use Rattle.std.proofs.Common.{◌≤◌, ◌+◌, refl, arith, pos}
-use Rattle.lines.proofs.Sizes.{rest_room_lem}
-use Rattle.lines.specs.Buffer.{rest_room}
-use Rattle.lines.specs.Writing.{Put}
-use Rattle.table.specs.declared.Outcome.TheVariants as O
-use Rattle.table.specs.Says.{outcome_says}
-use Rattle.transcript.specs.Room.{rest_of, told}
-use Rattle.transcript.proofs.Texts.{rest_stands}
+-- `put_told` puts the values of a record that was accepted; where there are none to tell, they are written as constants.
+use Rattle.std.proofs.Common.{arith}
+use mathlib.Core.Path.{refl, sym}
+use Rattle.transcript.proofs.Texts.{told_stands}
 use Rattle.transcript.proofs.put_told.Goals as goal
-use Rattle.transcript.proofs.put_told.Goals.{After-end}
 
-both : (c : After-end) → Put c.args.out.now c.put_values.new.out c.args.at c.end.result (rest_of (told c.args.x c.args.y)) × (c.end.result ≤ c.args.at + rest_room)
-unfolding outcome_says
-both c =
-    rest_stands (O.Accepted (record { x = c.args.x; y = c.args.y }))
-    refl
-    refl
-    refl
-    (rest_room_lem (pos 0) c.args.x c.args.y (omega arith) (omega arith) (omega arith))
-    c.requires
-    c.put_values.ensures.answer
-    c.put_values.ensures.buffer
-    c.end.ensures
+pub returns-then-told-eq0-2-clause-text : goal.returns-then-told-eq0-2-clause-text
+returns-then-told-eq0-2-clause-text c = (told_stands {told = c.args.told} (sym c.if-told-eq0.true) (sym c.if-told-eq0-2.true) (omega arith) (omega arith) c.requires c.put_values.ensures.answer c.put_values.ensures.buffer c.unwrap_or.ensures).0
+
+pub returns-then-told-eq0-2-clause-room : goal.returns-then-told-eq0-2-clause-room
+returns-then-told-eq0-2-clause-room c = (told_stands {told = c.args.told} (sym c.if-told-eq0.true) (sym c.if-told-eq0-2.true) (omega arith) (omega arith) c.requires c.put_values.ensures.answer c.put_values.ensures.buffer c.unwrap_or.ensures).1
 
 pub returns-clause-text : goal.returns-clause-text
-returns-clause-text c = (both c).0
+returns-clause-text c = (told_stands {told = c.args.told} refl refl (omega arith) (omega arith) c.requires c.put_values-2.ensures.answer c.put_values-2.ensures.buffer c.unwrap_or-2.ensures).0
 
 pub returns-clause-room : goal.returns-clause-room
-returns-clause-room c = (both c).1
+returns-clause-room c = (told_stands {told = c.args.told} refl refl (omega arith) (omega arith) c.requires c.put_values-2.ensures.answer c.put_values-2.ensures.buffer c.unwrap_or-2.ensures).1

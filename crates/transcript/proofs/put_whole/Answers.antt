@@ -5,4 +5,4 @@ use Rattle.transcript.proofs.put_whole.Goals as goal
 pub returns-clause-text : goal.returns-clause-text
 returns-clause-text c =
     let last = rw (c.if_ready-cycles.ensures, c.if_ready-reading.ensures) at c.put_last.ensures.text in
-    rw c.fresh.ensures at (joined c.put_records-replayed.ensures last)
+    rw c.fresh.ensures at (joined c.put_records-end.ensures last)

@@ -1,6 +1,0 @@
--- `hold_lines` ends: each line begins after the one before.
-use Rattle.std.proofs.Common.{length, ◌-◌}
-use Rattle.trace_cases.proofs.hold.hold_lines.Given as goal
-
-abbrev pub decreases-loop-at : goal.decreases-loop-at
-decreases-loop-at l = length l.list - l.at

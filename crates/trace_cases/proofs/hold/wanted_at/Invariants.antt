@@ -1,6 +1,0 @@
--- `wanted_at` ends: fewer bytes are left at each turn.
-use Rattle.std.proofs.Common.{length, ◌-◌}
-use Rattle.trace_cases.proofs.hold.wanted_at.Given as goal
-
-abbrev pub decreases-loop-at : goal.decreases-loop-at
-decreases-loop-at l = length l.list - l.at

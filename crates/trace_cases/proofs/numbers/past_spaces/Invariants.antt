@@ -1,6 +1,0 @@
--- `past_spaces` ends: fewer bytes are left at each turn.
-use Rattle.std.proofs.Common.{length, ◌-◌}
-use Rattle.trace_cases.proofs.numbers.past_spaces.Given as goal
-
-abbrev pub decreases-loop-at : goal.decreases-loop-at
-decreases-loop-at l = length l.list - l.at

@@ -1,5 +1,0 @@
--- `put_copies` ends: fewer copies are left at each turn.
-use Rattle.trace_cases.proofs.record.put_copies.Given as goal
-
-abbrev pub decreases-loop-left : goal.decreases-loop-left
-decreases-loop-left l = l.left

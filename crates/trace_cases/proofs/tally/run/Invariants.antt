@@ -1,6 +1,0 @@
--- `run` ends: each line begins after the one before.
-use Rattle.std.proofs.Common.{length, ◌-◌}
-use Rattle.trace_cases.proofs.tally.run.Given as goal
-
-abbrev pub decreases-loop-at : goal.decreases-loop-at
-decreases-loop-at g l = length l.list - l.at

@@ -1,6 +1,0 @@
--- `line_number` ends: fewer bytes are left at each turn.
-use Rattle.std.proofs.Common.{length, ◌-◌}
-use Rattle.trace_cases.proofs.text.line_number.Given as goal
-
-abbrev pub decreases-loop-at : goal.decreases-loop-at
-decreases-loop-at l = length l.text - l.at

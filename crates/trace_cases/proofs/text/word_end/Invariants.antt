@@ -1,6 +1,0 @@
--- `word_end` ends: fewer bytes are left at each turn.
-use Rattle.std.proofs.Common.{length, ◌-◌}
-use Rattle.trace_cases.proofs.text.word_end.Given as goal
-
-abbrev pub decreases-loop-at : goal.decreases-loop-at
-decreases-loop-at l = length l.text - l.at

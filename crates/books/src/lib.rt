@@ -13,8 +13,8 @@ use usage::ThreadUsage;
 // What the ledger keeps besides the thread records.
 #[derive(Clone, Copy)]
 pub struct Books {
-    // The stamp at which the open stretch began; 0 where none runs, as upstream's `stop_decide` has it. Books with the
-    // stamp 0 keep their thread (`stop_of`), which an `Option` of both would lose.
+    // The stamp at which the open stretch began; 0 where none runs, as upstream's `stop_decide` and document 01 have
+    // it.
     pub stamp: u32,
     // The thread that runs; looked at only where the stamp is not 0.
     pub running: u32,
@@ -77,8 +77,8 @@ fn charged(usage: ThreadUsage, cycles: u32) -> Result<ThreadUsage, Refusal>
     Ok(usage)
 }
 
-// Books, record and stamp go on apart: between the steps of a switch or a reopening books and record are others each time,
-// and one struct of the three would be made anew at each call.
+// Books, record and stamp go on apart: between the steps of a switch or a reopening books and record are others each
+// time, and one struct of the three would be made anew at each call. Thread and flag are an operation taken apart.
 
 // Closes the open stretch, whose thread has the record handed in.
 #[tactic(auto, unfolding(crate::specs::Entries::close_of, crate::specs::Entries::onward))]
@@ -301,6 +301,7 @@ pub fn concerned(books: Books, operation: Operation) -> u32
     }
 }
 
+// Its zeros are written out, as the definition has them.
 pub fn nothing_booked() -> Books
     ensures { result ≡ nothing_booked }
 {

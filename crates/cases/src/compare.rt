@@ -120,90 +120,44 @@ pub(crate) fn is_tracked(columns: &[u64]) -> Option<bool> {
 }
 
 pub(crate) fn enable(columns: &[u64]) -> Option<bool> {
-    let &[
-        tracked,
-        total,
-        windows,
-        code,
-        new_tracked,
-        new_total,
-        new_windows,
-    ] = columns
-    else {
-        return None;
-    };
-    let mut ours = record(tracked, total, windows)?;
-    let answer = ours.enable();
-    Some(outcome_columns(answer, ours) == (code, [new_tracked, new_total, new_windows]))
+    let (before, after) = columns.split_at_checked(3)?;
+    changed(before, after, |ours| ours.enable())
 }
 
 pub(crate) fn disable(columns: &[u64]) -> Option<bool> {
-    let &[
-        tracked,
-        total,
-        windows,
-        code,
-        new_tracked,
-        new_total,
-        new_windows,
-    ] = columns
-    else {
-        return None;
-    };
-    let mut ours = record(tracked, total, windows)?;
-    let answer = ours.disable();
-    Some(outcome_columns(answer, ours) == (code, [new_tracked, new_total, new_windows]))
+    let (before, after) = columns.split_at_checked(3)?;
+    changed(before, after, |ours| ours.disable())
 }
 
 pub(crate) fn accumulate(columns: &[u64]) -> Option<bool> {
-    let &[
-        tracked,
-        total,
-        windows,
-        cycles,
-        code,
-        new_tracked,
-        new_total,
-        new_windows,
-    ] = columns
-    else {
-        return None;
-    };
-    let mut ours = record(tracked, total, windows)?;
-    let answer = ours.accumulate(word(cycles)?);
-    Some(outcome_columns(answer, ours) == (code, [new_tracked, new_total, new_windows]))
+    let (before, rest) = columns.split_at_checked(3)?;
+    let (cycles, after) = rest.split_first()?;
+    let cycles = word(*cycles)?;
+    changed(before, after, |ours| ours.accumulate(cycles))
 }
 
 pub(crate) fn sys_enable_decide(columns: &[u64]) -> Option<bool> {
-    let &[current_tracking, apply] = columns else {
-        return None;
-    };
-    let ours = usage::sys_enable_decide(flag(current_tracking)?);
-    Some(u64::from(ours.is_apply()) == apply)
+    decided(columns, |tracking| {
+        Some(usage::sys_enable_decide(flag(tracking)?).is_apply())
+    })
 }
 
 pub(crate) fn sys_disable_decide(columns: &[u64]) -> Option<bool> {
-    let &[current_tracking, apply] = columns else {
-        return None;
-    };
-    let ours = usage::sys_disable_decide(flag(current_tracking)?);
-    Some(u64::from(ours.is_apply()) == apply)
+    decided(columns, |tracking| {
+        Some(usage::sys_disable_decide(flag(tracking)?).is_apply())
+    })
 }
 
 pub(crate) fn start_decide(columns: &[u64]) -> Option<bool> {
-    let &[track_usage, record_start] = columns else {
-        return None;
-    };
-    let ours = usage::start_decide(flag(track_usage)?);
-    Some(u64::from(ours.is_record_start()) == record_start)
+    decided(columns, |tracking| {
+        Some(usage::start_decide(flag(tracking)?).is_record_start())
+    })
 }
 
 pub(crate) fn stop_decide(columns: &[u64]) -> Option<bool> {
-    let &[usage0, accumulate] = columns else {
-        return None;
-    };
-    let ours = usage::stop_decide(word(usage0)?);
-    Some(u64::from(ours.is_accumulate()) == accumulate)
+    decided(columns, |usage0| {
+        Some(usage::stop_decide(word(usage0)?).is_accumulate())
+    })
 }
 
 pub(crate) fn average_cycles(columns: &[u64]) -> Option<bool> {
@@ -220,6 +174,34 @@ pub(crate) fn usage_elapsed_cycles(columns: &[u64]) -> Option<bool> {
     };
     let ours = usage::elapsed_cycles(word(now)?, word(usage0)?);
     Some(u64::from(ours) == elapsed)
+}
+
+// A record before the change, and the code and the record after it.
+fn changed<F>(before: &[u64], after: &[u64], change: F) -> Option<bool>
+where
+    F: FnOnce(&mut ThreadUsage) -> Result<(), Refusal>,
+    requires { F.IsAlwaysCallable change }
+{
+    let &[tracked, total, windows] = before else {
+        return None;
+    };
+    let &[code, new_tracked, new_total, new_windows] = after else {
+        return None;
+    };
+    let mut ours = record(tracked, total, windows)?;
+    let answer = change(&mut ours);
+    Some(outcome_columns(answer, ours) == (code, [new_tracked, new_total, new_windows]))
+}
+
+// One input, and a decision that is yes or no, as 1 or 0.
+fn decided<F: FnOnce(u64) -> Option<bool>>(columns: &[u64], decide: F) -> Option<bool>
+    requires { F.IsAlwaysCallable decide }
+{
+    let &[input, decision] = columns else {
+        return None;
+    };
+    let ours = decide(input)?;
+    Some(u64::from(ours) == decision)
 }
 
 // The number that ours must give, where upstream has an Option: its None says nothing of the reason.
@@ -255,10 +237,12 @@ fn record(tracked: u64, total: u64, windows: u64) -> Option<ThreadUsage> {
     })
 }
 
+// Named for its many calls: it is u32::try_from, with None for a column that is too large.
 fn word(column: u64) -> Option<u32> {
     u32::try_from(column).ok()
 }
 
+// std has no bool::try_from(u64): 0 and 1 are the columns that say no and yes.
 fn flag(column: u64) -> Option<bool> {
     match column {
         0 => Some(false),

@@ -42,7 +42,8 @@ fn main(rt: HostRuntime) -> ExitCode {
     }
 }
 
-// std opens a file by a text, and a name may be any bytes.
+// std opens a file by a text, and a name may be any bytes. Each program opens its file for itself, for the reason given
+// at `complain`.
 fn run_file(rt: &impl Runtime, name: &[u8]) -> ExitCode {
     let Ok(name) = std::str::from_utf8(name) else {
         complain(rt, "first argument: not UTF-8");
@@ -95,6 +96,7 @@ fn fail(rt: &(impl Eprint + Alloc), what: &str, error: Error) -> ExitCode {
 }
 
 // std ends an error of the system with its number in brackets, and has no call that gives the words alone.
+// Each program has these six lines: from a library they would need a contract, of a text that std may word otherwise.
 fn without_number(line: &str) -> &str {
     match line.rsplit_once(" (os error ") {
         Some((words, _)) => words,

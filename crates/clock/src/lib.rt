@@ -48,6 +48,8 @@ pub struct Announcement {
     pub timer: Timer,
 }
 
+// Period and tick stand apart here and in `set_up`, as their statements have them (`TermsGiven`, `EntriesExact`).
+
 // Whether a setup has a period out of range or no tick.
 pub fn bad_setup(period: u32, tick: u32) -> bool
     ensures { result ≡ bad_setup period tick }
@@ -63,6 +65,7 @@ pub fn set_up(period: u32, tick: u32) -> Result<Timer, Refusal>
         return Err(Refusal::Invalid);
     }
     let counter = counter::started(period)?;
+    // Its zeros are written out, as document 01 does.
     let clock = Clock {
         tick: tick,
         count: Cycles(0),

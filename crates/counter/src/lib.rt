@@ -75,7 +75,8 @@ impl Counter {
     }
 }
 
-// n cycles at once. A division only where a wrap comes: what is left of n after the first wrap tells where the value ends.
+// n cycles at once. A division only where a wrap comes: what is left of n after the first wrap tells where the value
+// ends.
 fn advanced(counter: Counter, n: u32) -> Counter
     requires { Valid counter.period counter × (counter.cycles.0 + n ≤ max64) }
     ensures { result ≡ run_n n counter }

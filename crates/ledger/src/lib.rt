@@ -86,7 +86,7 @@ pub fn report_from(
     Ok(ThreadReport::of(threads[k]))
 }
 
-// The same by value, as the statements over whole ledgers have it (`EveryOperation`).
+// The same by value, as two statements have it (`TermsGiven`, `EntriesExact`).
 pub fn operate(mut ledger: Ledger, reading: Cycles, operation: Operation) -> Ledgered
     ensures { result ≡ operate_of ledger reading operation }
 {

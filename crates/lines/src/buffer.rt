@@ -6,7 +6,7 @@ ghost use Rattle.lines.specs.Writing.{Put};
 use error::Refusal;
 
 // Room for so many bytes from `at` on, by what is left behind it: a sum could be too large for a usize. With a match on
-// `checked_sub` a record of a long trace, for which room is asked twice, takes 12 instructions more of 194.
+// `checked_sub` a record of a long trace, for which room is asked twice, takes 205 instructions and not 193.
 pub(crate) fn ask_room(length: usize, at: usize, size: usize) -> Result<(), Refusal>
     ensures { result ≡ cond (ltb length (at + size)) (Err NoSpace) (Ok tt) }
 {

@@ -4,6 +4,7 @@
 
 ghost use Rattle.std.specs.Prelude.{◌≡◌, Ok, Err, cond, ◌+◌, ◌≤◌, [], ◌∷◌, ◌++◌, length, ltb, pos};
 ghost use Rattle.lines.specs.Text.{signed, line_text, end_text, tail_text, input_text, values_text};
+ghost use Rattle.error.specs.Numbers.{number_of};
 ghost use Rattle.error.specs.declared.Refusal.TheVariants.{NoSpace};
 ghost use Rattle.lines.specs.Writing.{Put};
 ghost use Rattle.lines.specs.Buffer.{put_of, written_of, rest_room, roomy_put, roomy_written};
@@ -23,6 +24,8 @@ pub const LINE_ROOM: usize = 75;
 
 // And of it what follows the number.
 const REST_ROOM: usize = 54;
+
+// A line's numbers go one by one: this crate knows nothing of the machine, whose `Values` the last two are.
 
 #[tactic(auto, using(crate::proofs::Decimal::size_64, crate::proofs::Sizes::code_most, crate::proofs::Signs::same, crate::proofs::Stores::stores), unfolding(crate::specs::Text::line_text))]
 fn line_size(number: u64, code: i32, x: u64, y: u64) -> usize
@@ -50,7 +53,8 @@ fn put_rest(out: &mut [u8], at: usize, code: i32, x: u64, y: u64) -> usize
     put_number(out, third, y, b'\n')
 }
 
-// A step's line: its number, its code and two values.
+// A step's line: its number, its code and two values; any code, whose text is promised (`Writers`), and no reason
+// alone.
 #[tactic(auto, using(crate::proofs::Signs::same, crate::proofs::Stores::stores), unfolding(crate::specs::Text::line_text, crate::specs::Buffer::written_of, crate::specs::Buffer::put_of, crate::specs::Buffer::fits))]
 pub fn put_line(
     out: &mut [u8],
@@ -101,13 +105,14 @@ pub fn put_end(out: &mut [u8], at: usize, cycles: u64, reading: u64) -> Result<u
     Ok(put_number(out, third, reading, b'\n'))
 }
 
-// A word with its space, and a code.
+// A word with its space, and a reason's number.
 #[tactic(auto, using(crate::proofs::Sizes::code_most, crate::proofs::Signs::same, crate::proofs::Stores::stores), unfolding(crate::specs::Buffer::written_of, crate::specs::Buffer::put_of, crate::specs::Buffer::fits))]
-fn put_reason(out: &mut [u8], at: usize, letters: &[u8], code: i32) -> Result<usize, Refusal>
+fn put_reason(out: &mut [u8], at: usize, letters: &[u8], why: Refusal) -> Result<usize, Refusal>
     requires { length letters.now ≤ 8 }
-    ensures answer { result ≡ written_of out.old at (letters.now ++ signed code ++ 10 ∷ []) }
-    ensures buffer { out.new ≡ put_of out.old at (letters.now ++ signed code ++ 10 ∷ []) }
+    ensures answer { result ≡ written_of out.old at (letters.now ++ signed (number_of why) ++ 10 ∷ []) }
+    ensures buffer { out.new ≡ put_of out.old at (letters.now ++ signed (number_of why) ++ 10 ∷ []) }
 {
+    let code = why.number();
     ask_room(out.len(), at, letters.len() + code_places(code) + 1)?;
     let second = put_letters(out, at, letters);
     Ok(put_code(out, second, code, b'\n'))
@@ -119,7 +124,7 @@ pub fn put_tail(out: &mut [u8], at: usize) -> Result<usize, Refusal>
     ensures answer { result ≡ written_of out.old at tail_text }
     ensures buffer { out.new ≡ put_of out.old at tail_text }
 {
-    put_reason(out, at, b"tail ", error::EINVAL)
+    put_reason(out, at, b"tail ", Refusal::Invalid)
 }
 
 // A trace that is larger than the room for it.
@@ -128,5 +133,5 @@ pub fn put_input(out: &mut [u8], at: usize) -> Result<usize, Refusal>
     ensures answer { result ≡ written_of out.old at input_text }
     ensures buffer { out.new ≡ put_of out.old at input_text }
 {
-    put_reason(out, at, b"input ", error::ENOSPC)
+    put_reason(out, at, b"input ", Refusal::NoSpace)
 }

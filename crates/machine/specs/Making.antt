@@ -1,4 +1,4 @@
--- Inside: what a change comes to, made to a machine: what is answered, and the machine that is left. That this is 01's step is `step_made` (crates/machine/proofs/Tying.antt).
+-- Believed: what a change comes to, made to a machine: what is answered, and the machine that is left. Of a change that a record makes this is 01's step (`TermsGiven .step_is_made`).
 use Rattle.std.specs.Prelude.{true, Result, Ok, Err, ℕ}
 use Rattle.clock.specs.declared.Timer.{Timer}
 use Rattle.ledger.specs.declared.Ledgered.{Ledgered}

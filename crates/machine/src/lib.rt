@@ -17,8 +17,8 @@ use usage::ThreadUsage;
 
 #[derive(Clone, Copy)]
 pub struct Machine {
-    // Whether it is set up; until then nothing else is looked at, and all of it is given back as it came (`step_of`), so
-    // that it is no `Option` of the rest.
+    // Whether it is set up; until then nothing else is looked at. It is no `Option` of the rest, since statements speak
+    // of machines that are not set up and have parts all the same (`TableShown`).
     pub ready: bool,
     pub timer: Timer,
     pub ledger: Ledger,
@@ -69,8 +69,7 @@ pub fn make(
 {
     match change? {
         Change::Ran(counter) => {
-            // Field by field: with a copy of the whole, a record of a long trace takes 6 instructions more of 194.
-            core.timer.counter = Counter { ..counter };
+            core.timer.counter = counter;
             Ok(Values { x: 0, y: 0 })
         }
         Change::Told(timer, values) => {
@@ -128,7 +127,7 @@ pub fn step(machine: Machine, decoded: Result<Record, Refusal>) -> Stepped
     }
 }
 
-// A machine that is not set up.
+// A machine that is not set up: zeros, written out as the definition has them.
 pub fn fresh() -> Machine
     ensures { result ≡ fresh_machine ThreadUsage.SLOTS }
 {

@@ -37,7 +37,8 @@ fn has_second_argument(rt: &impl Env) -> bool {
     !matches!(rt.arg(2, &mut [0u8; NAME]), Err(FillError::NotPresent))
 }
 
-// std opens a file by a text, and a name may be any bytes.
+// std opens a file by a text, and a name may be any bytes. Each program opens its file for itself, for the reason given
+// at `complain`.
 fn replay_file(rt: &impl Runtime, name: &[u8]) -> ExitCode {
     let Ok(name) = std::str::from_utf8(name) else {
         complain(rt, "first argument: not UTF-8");

@@ -45,6 +45,7 @@ fn fail(rt: &(impl Eprint + Alloc), what: &str, error: Error) {
 }
 
 // std ends an error of the system with its number in brackets, and has no call that gives the words alone.
+// Each program has these six lines: from a library they would need a contract, of a text that std may word otherwise.
 fn without_number(line: &str) -> &str {
     match line.rsplit_once(" (os error ") {
         Some((words, _)) => words,

@@ -4,7 +4,8 @@ ghost use Rattle.std.specs.Prelude.{◌≤◌, IfOk, length};
 use std::io::{Read, Result};
 
 // How many bytes came before the input ended or the array was full. std's own loops don't serve: read_exact does not
-// tell how many bytes came before the end, and read_to_end fills a Vec, on the heap.
+// tell how many bytes came before the end, and read_to_end fills a Vec, on the heap, where a part is kept in fixed
+// memory here, as all is in the firmware.
 pub(crate) fn read_part(from: &mut impl Read, part: &mut [u8]) -> Result<usize>
     ensures { IfOk result (λ n. n ≤ length part.new) }
 {

@@ -17,7 +17,8 @@ pub(crate) fn write_part(
 }
 
 // The lines after the records': a short last record, then T and the last reading. It runs once, and beside the loop of
-// parts it would slow the loop's records.
+// parts it would slow the loop's records. `transcript::replay` ends a text with the same lines, but of a trace that it
+// has whole: in one of any size, which part is the last is known only once it has been read.
 #[cold]
 pub(crate) fn write_end(rt: &impl Print, machine: Machine, left: usize) -> Result<(), Failure> {
     let mut text = [0u8; 64];
@@ -30,7 +31,7 @@ pub(crate) fn write_end(rt: &impl Print, machine: Machine, left: usize) -> Resul
     write_text(rt, &text, written)
 }
 
-// A machine that is not set up has no cycles and no reading to tell.
+// A machine that is not set up has no cycles and no reading to tell. As in transcript, which keeps its own to itself.
 fn last_times(machine: Machine) -> (u64, u64) {
     if machine.ready {
         let timer = machine.timer;

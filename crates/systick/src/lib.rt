@@ -1,4 +1,5 @@
-// The timer's leaves: upstream's systick.rs on any numbers, each refusing for itself.
+// The timer's leaves: upstream's systick.rs on any numbers, each refusing for itself. Sums and products are tested
+// before they are made, as document 01 has it.
 #![tactic(auto)]
 
 ghost use Rattle.std.specs.Prelude.{◌≡◌};

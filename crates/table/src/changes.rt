@@ -30,8 +30,11 @@ pub enum Change {
     Fresh(Timer),
 }
 
-// Each kind makes the table's tests itself: then the compiler leaves out those that do not concern it. A run or a sample
-// that they let through is turned away only where the state is malformed.
+// The number of slots goes beside the core in all of these, and not into it: the core is the state, and the definitions
+// and statements speak of the two apart (`change_of`, `ChangesExact`).
+
+// Each kind makes the table's tests itself: then the compiler leaves out those that do not concern it. A run or a
+// sample that they let through is turned away only where the state is malformed.
 #[tactic(auto, unfolding(crate::specs::Change::task_change, crate::specs::Change::tested_of, crate::specs::Change::effect_change, crate::specs::Change::ran_change, crate::specs::Task::asked_by))]
 fn run_change(core: Core, slots: usize, p: u32) -> Result<Change, Reason>
     ensures { result ≡ task_change core slots (T.Run p) }
@@ -112,7 +115,6 @@ fn task_change(core: Core, slots: usize, task: Task) -> Result<Change, Reason>
     }
 }
 
-// The number of slots goes beside the core, and not into it: the core is the state, which changes from record to record.
 // What a decoded record changes. A malformed state turns every record away, and stays as it is.
 #[tactic(auto, unfolding(crate::specs::Change::change_of, crate::specs::Change::record_change))]
 pub fn change_of(

@@ -16,7 +16,7 @@ mod tasks;
 // A machine without its thread records: what a record changes is worked out at the same cost for any number of them.
 #[derive(Clone, Copy)]
 pub struct Core {
-    // No `Option` of what follows: a machine handed in that is not set up is given back with all its parts (`step_of`).
+    // No `Option` of what follows, since statements speak of the parts of what is not set up (`TableShown`).
     pub ready: bool,
     pub timer: Timer,
     pub books: Books,

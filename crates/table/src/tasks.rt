@@ -67,7 +67,8 @@ pub fn task_of(decoded: Record) -> Task
     }
 }
 
-// Where a row looks at neither the books nor the table, the promise names books in which none runs and a table of no slots.
+// Where a row looks at neither the books nor the table, the promise names books in which none runs and a table of no
+// slots.
 #[tactic(auto, unfolding(crate::specs::Task::asked_by))]
 pub fn asks_nothing() -> Asked
     ensures { result ≡ asked_by nothing_booked 0 T.Announce }

@@ -5,6 +5,7 @@ ghost use Rattle.tickclock.specs.Plain.{is_set, flag_of, usage_of};
 use units::Cycles;
 use usage::ThreadUsage;
 
+// C's flags are numbers, and any but 0 is set: a test, and no conversion that a `From` has.
 #[tactic(auto, unfolding(crate::specs::Plain::is_set))]
 pub fn is_set(flag: u32) -> bool
     ensures { result ≡ is_set flag }

@@ -10,8 +10,8 @@ use error::Refusal;
 
 pub mod reader;
 
-// A record's bytes as numbers, before they are a record: the kind may be any byte. `spare` is the two bytes that are
-// always 0.
+// A record's bytes as numbers in their order, before they are a record: the kind may be any byte, and p, q and r are gaps
+// of some kinds alone. `spare` is the two bytes that are always 0.
 #[derive(Clone, Copy)]
 struct Fields {
     kind: u8,
@@ -128,12 +128,8 @@ fn decode_fields(fields: Fields) -> Result<Record, Refusal>
 pub fn decode(trace: &[u8], at: usize) -> Result<Record, Refusal>
     ensures { result ≡ decode_of trace.now at }
 {
-    let size = trace.len();
-    if size < 16 {
-        return Err(Refusal::Invalid);
+    match trace.len().checked_sub(16) {
+        Some(last) if at <= last => decode_fields(fields_at(trace, at)),
+        _ => Err(Refusal::Invalid),
     }
-    if size - 16 < at {
-        return Err(Refusal::Invalid);
-    }
-    decode_fields(fields_at(trace, at))
 }

@@ -12,18 +12,15 @@ pub struct TraceReader<'a> {
 }
 
 // Bytes and place are lent apart here, since document 01 asks for a decoder over a slice and a place, and a statement
-// speaks of each (`TermsGiven`); `TraceReader` holds both.
+// speaks of each (`TermsGiven`). `TraceReader` holds both; it is no `Iterator`, since it hands itself on by value, as
+// its statement has it (`ReaderEnsures`).
 
 // How many whole records there are from a place on; past the trace there is none.
 #[tactic(auto, unfolding(crate::specs::Handing::records_left))]
 pub fn records_from(trace: &[u8], at: usize) -> usize
     ensures { result ≡ records_left trace.now at }
 {
-    let size = trace.len();
-    if size < at {
-        return 0;
-    }
-    (size - at) / 16
+    trace.len().saturating_sub(at) / 16
 }
 
 // How many bytes of a short record are left after them.
@@ -31,11 +28,7 @@ pub fn records_from(trace: &[u8], at: usize) -> usize
 pub fn bytes_from(trace: &[u8], at: usize) -> usize
     ensures { result ≡ bytes_left trace.now at }
 {
-    let size = trace.len();
-    if size < at {
-        return 0;
-    }
-    (size - at) % 16
+    trace.len().saturating_sub(at) % 16
 }
 
 // What stands at a place: sixteen bytes, a record or refused; or nothing, where fewer are left.

@@ -5,6 +5,7 @@ pub const SIZE: usize = 16;
 
 #[derive(Clone, Copy)]
 pub struct Record {
+    // No enum: it is a byte of the trace that is made.
     kind: u8,
     thread: u8,
     p: u32,

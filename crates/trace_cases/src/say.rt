@@ -1,7 +1,8 @@
 // What went wrong, on standard error.
 use std::io::Error;
 
-// A line on standard error.
+// A line on standard error. Each program says it for itself: a library's public function has a contract that leaves one
+// outcome, and no contract says what standard error does.
 fn complain(rt: &impl Eprint, line: &str) {
     // Where standard error takes nothing, there is nobody left to tell.
     let _ = rt.eprintln(line);
@@ -15,7 +16,8 @@ pub(crate) fn fail(rt: &(impl Eprint + Alloc), what: &str, error: Error) {
     }
 }
 
-// std ends an error of the system with its number in brackets.
+// std ends an error of the system with its number in brackets, and has no call that gives the words alone.
+// Each program has these six lines: from a library they would need a contract, of a text that std may word otherwise.
 fn without_number(line: &str) -> &str {
     match line.rsplit_once(" (os error ") {
         Some((words, _)) => words,

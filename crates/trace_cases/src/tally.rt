@@ -42,6 +42,7 @@ impl fmt::Display for Tally {
 pub(crate) fn run(out: &mut impl Write, list: &[u8]) -> Result<Tally> {
     let mut tally = Tally::default();
     let mut lines = Lines::of(list);
+    // No `for`, which would keep the iterator to itself: a case is handed it as it stands, behind the case's name.
     while let Some(line) = lines.next() {
         if line.begins_case() {
             out.write_all(line.text)?;

@@ -1,4 +1,5 @@
-// A thread's usage record and its leaves: upstream's usage.rs by value, on any numbers.
+// A thread's usage record and its leaves: upstream's usage.rs by value, on any numbers. Sums are tested before they are
+// made, as document 01 has it.
 #![tactic(auto)]
 
 ghost use Rattle.std.specs.Prelude.{◌≡◌};
@@ -27,6 +28,7 @@ impl ThreadUsage {
     // A full count of windows: one more would not fit.
     pub const MAX_WINDOWS: u32 = 4294967295;
 
+    // Upstream's constructor, by its name and in place of a `Default`.
     pub fn new_idle() -> Self
         ensures { result ≡ new_idle }
     {

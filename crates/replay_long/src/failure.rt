@@ -14,7 +14,7 @@ pub enum Failure {
 
 impl Failure {
     // A failure is a line on standard error, of which ./tickclock makes a status. Of its own the program has one, 1,
-    // where the lines could not all be made and written.
+    // where something could not be read or written, or the lines of a part not be made.
     pub(crate) fn tell(self, rt: &(impl Eprint + Alloc)) -> ExitCode {
         match self {
             Failure::Read(error) => fail(rt, "standard input", error),

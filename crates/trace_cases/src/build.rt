@@ -12,18 +12,42 @@ const MOST: usize = transcript::MOST_BYTES + 1;
 pub struct Trace(ArrayVec<u8, MOST>);
 
 impl Trace {
+    pub(crate) fn new() -> Self {
+        Trace(ArrayVec::new())
+    }
+
+    pub(crate) fn clear(&mut self) {
+        self.0.clear();
+    }
+
+    // What there is room for.
     fn add(&mut self, bytes: &[u8]) {
-        let _ = self.0.extend(bytes.iter().copied());
+        let fitting = bytes.get(..self.0.remaining_capacity()).unwrap_or(bytes);
+        let _ = self.0.try_extend_from_slice(fitting);
     }
 
     // The last records, so many times more; None where the trace has fewer.
     fn repeat(&mut self, records: u16, times: u16) -> Option<()> {
         let size = usize::from(records) * record::SIZE;
         let start = self.0.len().checked_sub(size)?;
-        let last = ArrayVec::<u8, MOST>::try_from(&self.0.as_slice()[start..]).ok()?;
         for _ in 0..times {
-            self.add(last.as_slice());
+            for record in 0..usize::from(records) {
+                if self.0.is_full() {
+                    return Some(());
+                }
+                self.add_again(start.checked_add(record * record::SIZE)?)?;
+            }
         }
+        Some(())
+    }
+
+    // The record at a place. It goes by way of an array of its own, since a trace can't lend a part of itself to grow by.
+    fn add_again(&mut self, at: usize) -> Option<()> {
+        let (_, rest) = self.0.as_slice().split_at_checked(at)?;
+        let (record, _) = rest.split_at_checked(record::SIZE)?;
+        let mut again = [0u8; record::SIZE];
+        again.copy_from_slice(record);
+        self.add(&again);
         Some(())
     }
 
@@ -33,8 +57,8 @@ impl Trace {
 }
 
 // The lines from the first on, to the next case.
-pub(crate) fn build(lines: Lines<'_>) -> Result<Trace, Unreadable> {
-    let mut trace = Trace(ArrayVec::new());
+pub(crate) fn build(lines: Lines<'_>, trace: &mut Trace) -> Result<(), Unreadable> {
+    trace.clear();
     for line in lines.take_while(|line| !line.begins_case()) {
         match line.step()? {
             None => {}
@@ -45,5 +69,5 @@ pub(crate) fn build(lines: Lines<'_>) -> Result<Trace, Unreadable> {
                 .ok_or(Unreadable(line.number))?,
         }
     }
-    Ok(trace)
+    Ok(())
 }

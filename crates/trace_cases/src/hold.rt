@@ -1,5 +1,4 @@
 // A text held to the lines that its case has for it.
-use crate::step::Step;
 use crate::text::{Line, Lines};
 
 // The lines from the first on, to the next case: what follows `>` on one is the text's next line. Of records added by
@@ -7,7 +6,7 @@ use crate::text::{Line, Lines};
 pub(crate) fn hold<'a>(lines: Lines<'_>, text: &'a [u8]) -> Result<(), Line<'a>> {
     let mut given = Lines::of(text);
     for line in lines.take_while(|line| !line.begins_case()) {
-        if let Ok(Some(Step::Again { records, times })) = line.step() {
+        if let Some((records, times)) = line.again() {
             pass(&mut given, records, times);
         }
         if let Some(wanted) = line.wanted() {

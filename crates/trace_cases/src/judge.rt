@@ -1,5 +1,5 @@
 // A case: its trace is made and replayed, and the text held to the case's lines.
-use crate::build::build;
+use crate::build::{Trace, build};
 use crate::hold::hold;
 use crate::text::Lines;
 use std::io::{Result, Write};
@@ -11,18 +11,20 @@ pub enum Verdict {
     Unreadable,
 }
 
-// The case whose lines begin here. What comes of it is told at once.
+// The case whose lines begin here. What comes of it is told at once. Trace and text are lent, since a function pays for
+// large arrays of its own at each call.
 #[tactic(auto, unfolding(error::specs::Said::number_in))]
-pub(crate) fn judge(out: &mut impl Write, lines: Lines<'_>) -> Result<Verdict> {
-    let trace = match build(lines) {
-        Ok(trace) => trace,
-        Err(unreadable) => {
-            writeln!(out, ": {unreadable}")?;
-            return Ok(Verdict::Unreadable);
-        }
-    };
-    let mut text = [0u8; transcript::MOST_ROOM];
-    let end = transcript::replay(trace.as_slice(), &mut text).unwrap_or(0);
+pub(crate) fn judge(
+    out: &mut impl Write,
+    lines: Lines<'_>,
+    trace: &mut Trace,
+    text: &mut [u8; transcript::MOST_ROOM],
+) -> Result<Verdict> {
+    if let Err(unreadable) = build(lines, trace) {
+        writeln!(out, ": {unreadable}")?;
+        return Ok(Verdict::Unreadable);
+    }
+    let end = transcript::replay(trace.as_slice(), text).unwrap_or(0);
     match hold(lines, &text[..end]) {
         Ok(()) => {
             out.write_all(b": agrees\n")?;

@@ -1,6 +1,8 @@
 // Replays the traces of the list on standard input, and says of each whether its text is the one that the list has.
 #![tactic(auto)]
 
+ghost use Rattle.std.specs.Prelude.{◌≤◌, IfOk, length};
+
 mod build;
 mod hold;
 mod judge;
@@ -10,7 +12,6 @@ mod step;
 mod tally;
 mod text;
 
-use std::alloc::Global;
 use std::io::{Read, Result, Write};
 use std::process::ExitCode;
 
@@ -19,14 +20,16 @@ const MOST: usize = 65536;
 
 // A list that could not be read to its end gets no last line. A failure is a line on standard error, and a status of 1.
 fn main(rt: HostRuntime) -> ExitCode {
-    let list = match read_list(rt.stdin(), rt.alloc()) {
-        Ok(list) => list,
+    // One byte more than a list may have is enough to tell that it has too many.
+    let mut list = [0u8; MOST + 1];
+    let length = match read_list(&mut rt.stdin(), &mut list) {
+        Ok(length) => length,
         Err(error) => {
             say::fail(&rt, "standard input", error);
             return ExitCode::FAILURE;
         }
     };
-    match run_list(&rt, list.as_slice()) {
+    match run_list(&rt, &list[..length]) {
         Ok(()) => ExitCode::SUCCESS,
         Err(error) => {
             say::fail(&rt, "standard output", error);
@@ -35,11 +38,20 @@ fn main(rt: HostRuntime) -> ExitCode {
     }
 }
 
-// One byte more than a list may have is enough to tell that it has too many.
-fn read_list(from: impl Read + Drop, alloc: Global) -> Result<Vec<u8>> {
-    let mut list = Vec::new(alloc);
-    from.take(MOST as u64 + 1).read_to_end(&mut list)?;
-    Ok(list)
+// How many bytes came before the input ended or the array was full. A loop as replay has it, and for the same reason:
+// std's read_to_end fills a Vec on the heap, which can run out where fixed memory can't.
+fn read_list(from: &mut impl Read, list: &mut [u8]) -> Result<usize>
+    ensures { IfOk result (λ n. n ≤ length list.new) }
+{
+    let mut done = 0;
+    while done < list.len() {
+        let more = from.read(&mut list[done..])?;
+        if more == 0 {
+            break;
+        }
+        done += more;
+    }
+    Ok(done)
 }
 
 fn run_list(rt: &impl Print, list: &[u8]) -> Result<()> {

@@ -31,7 +31,7 @@ impl fmt::Display for Unreadable {
 
 impl<'a> Line<'a> {
     pub(crate) fn begins_case(self) -> bool {
-        matches!(split_word(self.text), (b"trace", _))
+        after_word(self.text, b"trace").is_some()
     }
 
     // A comment adds nothing, nor does an empty line, or one that only says what the text must have.
@@ -42,6 +42,12 @@ impl<'a> Line<'a> {
         }
         let step = read_step(step).ok_or(Unreadable(self.number))?;
         Ok(Some(step))
+    }
+
+    // Where it is an `again` that can be read: so many records, so many times.
+    pub(crate) fn again(self) -> Option<(u16, u16)> {
+        let (step, _) = split_step(after_word(self.text, b"again")?);
+        read_again(read_numbers(step)?.as_slice())
     }
 
     // What follows `>`. A comment may have a `>` of its own.
@@ -57,6 +63,13 @@ fn split_step(line: &[u8]) -> (&[u8], &[u8]) {
     split_before(line, |byte| matches!(*byte, b'>' | b'#'))
 }
 
+// What follows a line's first word, where it is this one.
+fn after_word<'a>(line: &'a [u8], word: &[u8]) -> Option<&'a [u8]> {
+    let rest = line.strip_prefix(word)?;
+    let longer = rest.first().is_some_and(|byte| byte.is_ascii_lowercase());
+    (!longer).then_some(rest)
+}
+
 fn split_word(step: &[u8]) -> (&[u8], &[u8]) {
     split_before(step, |byte| !byte.is_ascii_lowercase())
 }
@@ -66,12 +79,17 @@ fn read_step(step: &[u8]) -> Option<Step> {
     let numbers = read_numbers(rest)?;
     match word {
         b"bytes" => read_bytes(numbers.as_slice()),
-        b"again" => read_again(numbers.as_slice()),
+        b"again" => {
+            let (records, times) = read_again(numbers.as_slice())?;
+            Some(Step::Again { records, times })
+        }
         _ => Some(Step::Record(Record::read(word, numbers.as_slice())?)),
     }
 }
 
 fn read_numbers(text: &[u8]) -> Option<ArrayVec<u32, MOST>> {
+    // The spaces in front are passed at once, since a line may be padded.
+    let (_, text) = split_before(text, |byte| *byte != b' ');
     let mut numbers = ArrayVec::new();
     for digits in text
         .split(|byte| *byte == b' ')
@@ -84,9 +102,9 @@ fn read_numbers(text: &[u8]) -> Option<ArrayVec<u32, MOST>> {
 
 // Nothing but digits, and no number that is too large for the widest field of a record.
 fn read_number(digits: &[u8]) -> Option<u32> {
-    digits.iter().try_fold(0u32, |number, byte| {
-        let digit = char::from(*byte).to_digit(10)?;
-        number.checked_mul(10)?.checked_add(digit)
+    digits.iter().try_fold(0u32, |number, byte| match *byte {
+        b'0'..=b'9' => number.checked_mul(10)?.checked_add(u32::from(*byte - b'0')),
+        _ => None,
     })
 }
 
@@ -98,14 +116,11 @@ fn read_bytes(numbers: &[u32]) -> Option<Step> {
     Some(Step::Bytes(bytes))
 }
 
-fn read_again(numbers: &[u32]) -> Option<Step> {
+fn read_again(numbers: &[u32]) -> Option<(u16, u16)> {
     let [records, times] = numbers else {
         return None;
     };
-    Some(Step::Again {
-        records: read_count(*records)?,
-        times: read_count(*times)?,
-    })
+    Some((read_count(*records)?, read_count(*times)?))
 }
 
 fn read_count(number: u32) -> Option<u16> {

@@ -1,4 +1,5 @@
 // The cases of a list, one after another, and how many agreed.
+use crate::build::Trace;
 use crate::judge::{Verdict, judge};
 use crate::text::Lines;
 use std::fmt;
@@ -42,11 +43,13 @@ impl fmt::Display for Tally {
 pub(crate) fn run(out: &mut impl Write, list: &[u8]) -> Result<Tally> {
     let mut tally = Tally::default();
     let mut lines = Lines::of(list);
+    let mut trace = Trace::new();
+    let mut text = [0u8; transcript::MOST_ROOM];
     // No `for`, which would keep the iterator to itself: a case is handed it as it stands, behind the case's name.
     while let Some(line) = lines.next() {
         if line.begins_case() {
             out.write_all(line.text)?;
-            tally.add(judge(out, lines)?);
+            tally.add(judge(out, lines, &mut trace, &mut text)?);
         }
     }
     Ok(tally)

@@ -1,10 +1,10 @@
 -- Each outcome of each entry of the clock, from the facts that bring it about.
 use Rattle.std.specs.Prelude.{Result, Ok, Err}
-use Prim.Native.Nat.{ℕ, ◌+◌, ◌≤◌, ◌<◌}
+use Prim.Native.Nat.{ℕ, ◌+◌, ◌-◌, ◌≤◌, ◌<◌}
 use mathlib.Core.Path.{◌≡◌, refl, sym, ap, ◌∙◌}
 use mathlib.Core.Bool.{Bool, true, false, not, ◌&&◌}
 use native.Mathlib.Omega.{arith}
-use borrow.Author.Tests.{lt-leb, leb-true, eqb-false}
+use borrow.Author.Tests.{lt-leb, le-leb, leb-true, leb-false, eqb-false}
 use lib.Dec.{leb, eqb}
 use Rattle.error.proofs.Tests.{clash}
 use Rattle.error.specs.declared.Refusal.{Refusal}
@@ -26,6 +26,14 @@ use Rattle.clock.specs.Timer.{setup, GoodSetup, accounted_for, well_formed}
 use Rattle.clock.specs.Entries.{set_up, sample_of, Ready}
 use Rattle.clock.specs.Sample.{crowded, sample_value}
 use Rattle.clock.specs.Announce.{announce_of, announcement_from}
+
+-- a test of a sum against a limit, when one part is taken off the limit first
+pub shifted : (a b limit : ℕ) → b ≤ limit → leb a (limit - b) ≡ leb (a + b) limit
+shifted a b limit h = by_test (leb (a + b) limit) refl
+  where
+    by_test : (t : Bool) → leb (a + b) limit ≡ t → leb a (limit - b) ≡ leb (a + b) limit
+    by_test true e = let k : a + b ≤ limit = leb-true _ _ e in le-leb a (limit - b) (omega arith) ∙ sym e
+    by_test false e = let k : limit < a + b = leb-false _ _ e in lt-leb a (limit - b) (omega arith) ∙ sym e
 
 pub past : (a b limit : ℕ) → limit < b → false ≡ leb (a + b) limit
 past a b limit h = sym (lt-leb (a + b) limit (omega arith))

@@ -19,4 +19,5 @@ entries_exact = record {
   sample = λ t g answer allowed. rw allowed.2 (by_rows Ok Err _ _ (λ why e. clash (cc)) (λ r s e. cc));
   announce = λ t answer allowed. rw allowed.2 (by_rows Ok Err _ _ (λ why e. clash (cc)) (λ r s e. cc));
   report = λ l i answer allowed. rw allowed.2 (by_rows Ok Err _ _ (λ why e. clash (cc)) (λ r s e. cc));
+  report_from = λ books threads i answer allowed. rw allowed.2 (by_rows Ok Err _ _ (λ why e. clash (cc)) (λ r s e. cc));
 }

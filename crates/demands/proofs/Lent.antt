@@ -2,10 +2,11 @@
 use Rattle.std.specs.Prelude.{Result, Ok, Err}
 use Prim.Native.Nat.{ℕ}
 use mathlib.Core.List.{List}
-use mathlib.Core.Path.{◌≡◌, refl, sym, subst, ◌∙◌}
+use mathlib.Core.Path.{◌≡◌, refl, sym, ap, subst, ◌∙◌}
 use Rattle.std.specs.Borrow.{Bor, MutBor}
 use Rattle.usage.specs.declared.ThreadUsage.{ThreadUsage}
 use Rattle.usage.specs.Says.{InPlace, done, kept, outcome_of}
+use Rattle.usage.proofs.Done.{number_done}
 use Rattle.trace.specs.declared.reader.TraceReader.{TraceReader}
 use Rattle.demands.specs.Outcome.{OneOutcome, OneOutcomeLent}
 use Rattle.demands.specs.Lent.{OutcomeIs, LentForms, LentNow, ChangedNow, ByHand}
@@ -27,6 +28,7 @@ unfolding done kept
 forms = record {
   accepted = λ before u. (refl, refl);
   refused = λ before why. (refl, refl);
+  from_c = λ before answer. ap (λ code. record { code = code; usage = kept before answer }) (sym (number_done answer));
   enable = λ u answer given. after_leaf u given.2;
   disable = λ u answer given. after_leaf u given.2;
   accumulate = λ u cycles answer given. after_leaf u given.2;

@@ -104,6 +104,7 @@ use Rattle.tickclock.proofs.timer.systick_announce_decide_new_announced_cycles.R
 use Rattle.tickclock.proofs.timer.counter_value_number.Reads as counter-value-number
 use Rattle.tickclock.proofs.timer.counter_value_value.Reads as counter-value-value
 use Rattle.table.proofs.Reason.refusal.Reads as table-Reason-refusal
+use Rattle.table.proofs.number.Reads as table-number
 use Rattle.table.proofs.malformed.Reads as table-malformed
 use Rattle.table.proofs.changes.change_of.Reads as changes-change-of
 use Rattle.table.proofs.changes.change_at.Reads as changes-change-at
@@ -275,8 +276,10 @@ trace_outcomes = once _
 
 pub table_outcomes :
     OneOutcome table-Reason-refusal.Post ×
+    OneOutcome table-number.Post ×
     OneOutcome table-malformed.Post
 table_outcomes = (
+  once _,
   once _,
   once _,
 )

@@ -11,6 +11,7 @@ unfolding number_in sys_track_says start_says stop_says outcome_says
 readers = record {
   refusal = λ why r given. given.2;
   number = λ T laws dict answer r given. given.2;
+  value = λ T Why laws why_laws dict why_dict answer zeros r given. given.2;
   elapsed_cycles_lem = ((λ v. refl, λ why. refl), (λ v. refl, λ why. refl));
   cycles_to_ticks_lem = ((λ v. refl, λ why. refl), (λ v. refl, λ why. refl));
   ticks_to_cycles_lem = ((λ v. refl, λ why. refl), (λ v. refl, λ why. refl));
@@ -30,6 +31,7 @@ readers = record {
   decoded = (λ v. refl, λ why. refl);
   written = ((λ v. refl, λ why. refl), (λ v. refl, λ why. refl));
   reason = λ why r given. given.2;
+  outcome_number = λ outcome r given. given.2;
   outcome = (λ v. refl, λ why. refl, (λ v. refl, λ why. refl), (λ v. refl, λ why. refl));
   sys_track = (λ r given. given.2, λ r given. given.2);
   start = (λ r given. given.2, λ r given. given.2);

@@ -9,9 +9,10 @@ use types.Logic.{Logic}
 use contract.Monad.{Fun, fact}
 use Rattle.std.specs.Borrow.{Bor, MutBor}
 use Rattle.error.specs.Numbers.{ok, number_of}
+use Rattle.error.specs.Said.{number_in}
 use Rattle.usage.specs.declared.ThreadUsage.{ThreadUsage}
 use Rattle.usage.specs.Leaves.{enabled, disabled, accumulated}
-use Rattle.usage.specs.Says.{InPlace, done, kept, enable_outcome, disable_outcome, accumulate_outcome}
+use Rattle.usage.specs.Says.{InPlace, done, kept, outcome_of, enable_outcome, disable_outcome, accumulate_outcome}
 use Rattle.usage.proofs.enabled.Reads as usage-enabled
 use Rattle.usage.proofs.disabled.Reads as usage-disabled
 use Rattle.usage.proofs.accumulated.Reads as usage-accumulated
@@ -44,6 +45,8 @@ pub record LentForms : Type 0 where
   -- in place: done and the new record, or the reason and the record as it was
   pub accepted : (before u : ThreadUsage) → (done (Ok u) ≡ Ok tt) × (kept before (Ok u) ≡ u)
   pub refused : (before : ThreadUsage) (why : Refusal) → (done (Err why) ≡ Err why) × (kept before (Err why) ≡ before)
+  -- from C: the number of what is answered in place, and the record that is left
+  pub from_c : (before : ThreadUsage) (answer : Result ThreadUsage Refusal) → outcome_of before answer ≡ record { code = number_in (done answer); usage = kept before answer }
   pub enable : (u : ThreadUsage) (answer : Result ThreadUsage Refusal) → Allowed usage-enabled.Post (u, tt) answer → OutcomeIs u answer (enable_outcome u)
   pub disable : (u : ThreadUsage) (answer : Result ThreadUsage Refusal) → Allowed usage-disabled.Post (u, tt) answer → OutcomeIs u answer (disable_outcome u)
   pub accumulate : (u : ThreadUsage) (cycles : ℕ) (answer : Result ThreadUsage Refusal) → Allowed usage-accumulated.Post (u, (cycles, tt)) answer → OutcomeIs u answer (accumulate_outcome u cycles)

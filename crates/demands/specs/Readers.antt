@@ -1,5 +1,7 @@
 -- Believed: what is read off an answer. Its number, each part of its value, zeros where it is refused; and a decision as yes or no.
 use Rattle.std.specs.Prelude.{◌≡◌, true, false, Result, Ok, Err}
+use Rattle.std.specs.Result.{result_unwrap_or}
+use Rattle.std.proofs.result.Result.unwrap_or.Reads as std-unwrap-or
 use denote.RattleType.{RattleType}
 use denote.Param.Laws.{Laws}
 use mir.Syntax.{Dict}
@@ -27,6 +29,7 @@ use Rattle.trace.specs.Decode.{decoded_says}
 use Rattle.table.specs.Table.{refusal_of}
 use Rattle.table.specs.Says.{outcome_says}
 use Rattle.table.proofs.Reason.refusal.Reads as Reason-refusal
+use Rattle.table.proofs.number.Reads as table-number
 use Rattle.lines.specs.Says.{written_says}
 use Rattle.demands.specs.Contract.{Every, Gives1}
 
@@ -42,8 +45,12 @@ module _ {Value : Type 0} (says : Result Value Refusal → Said Value) where
 
 pub record Readers : Type 2 where
   pub refusal : Gives1 error-Refusal-number.Post number_of
-  -- one function gives the number of every answer, whatever its value is
+  -- one function gives the number of every answer with a `Refusal`, whatever its value is
   pub number : (T : RattleType) (laws : Laws T) (dict : Dict) (answer : Result T.Denot Refusal) → Every (error-number.Post T laws dict) (answer, tt) (λ n. n ≡ number_in answer)
+  -- and one of std's its value, or the zeros that it is handed
+  pub value :
+      (T Why : RattleType) (laws : Laws T) (why_laws : Laws Why) (dict why_dict : Dict) (answer : Result T.Denot Why.Denot) (zeros : T.Denot) →
+      Every (std-unwrap-or.Post T Why laws why_laws dict why_dict) (answer, (zeros, tt)) (λ v. v ≡ result_unwrap_or answer zeros)
   pub elapsed_cycles_lem : ReadsNumber elapsed_cycles_says × ReadsPart elapsed_cycles_says (λ cycles. cycles) 0
   pub cycles_to_ticks_lem : ReadsNumber cycles_to_ticks_says × ReadsPart cycles_to_ticks_says (λ ticks. ticks) (record { 0 = 0 })
   pub ticks_to_cycles_lem : ReadsNumber ticks_to_cycles_says × ReadsPart ticks_to_cycles_says (λ cycles. cycles) (record { 0 = 0 })
@@ -76,6 +83,7 @@ pub record Readers : Type 2 where
   pub written : ReadsNumber written_says × ReadsPart written_says (λ end. end) 0
   -- a step's: a row's reason is `refusal_of`, and its number that reason's
   pub reason : Gives1 Reason-refusal.Post refusal_of
+  pub outcome_number : Gives1 table-number.Post (λ outcome. (outcome_says outcome).number)
   pub outcome : ((v : _) → (outcome_says (Ok v)).number ≡ ok) × ((why : _) → (outcome_says (Err why)).number ≡ number_of (refusal_of why)) × ReadsPart outcome_says (λ v. v.x) 0 × ReadsPart outcome_says (λ v. v.y) 0
   -- a decision as yes or no
   pub sys_track : Every SysTrackDecision-is-apply.Post (Apply, tt) (λ yes. yes ≡ true) × Every SysTrackDecision-is-apply.Post (NoOp, tt) (λ yes. yes ≡ false)

@@ -4,6 +4,7 @@
 ghost use Rattle.std.specs.Prelude.{◌≡◌};
 ghost use Rattle.table.specs.Table.{refusal_of, malformed};
 ghost use Rattle.table.specs.Change.{tested_of};
+ghost use Rattle.table.specs.Says.{outcome_says};
 
 use books::Books;
 use clock::Timer;
@@ -38,8 +39,8 @@ pub enum Reason {
     WontFit,
 }
 
-// What a record's line says after its number and code.
-#[derive(Clone, Copy)]
+// What a record's line says after its number and code; zeros by default, as a refusal says.
+#[derive(Clone, Copy, Default)]
 pub struct Values {
     pub x: u64,
     pub y: u64,
@@ -63,6 +64,17 @@ impl Reason {
             Reason::NotAnnounced(why) => why,
             Reason::WontFit => Refusal::Overflow,
         }
+    }
+}
+
+// The number of a step's outcome: 0 where the record was accepted, and else its row's.
+#[tactic(auto, unfolding(crate::specs::Says::outcome_says))]
+pub fn number(outcome: Result<Values, Reason>) -> i32
+    ensures { result ≡ (outcome_says outcome).number }
+{
+    match outcome {
+        Ok(_) => error::OK,
+        Err(why) => why.refusal().number(),
     }
 }
 

@@ -38,8 +38,8 @@ fn main(rt: HostRuntime) -> ExitCode {
     }
 }
 
-// How many bytes came before the input ended or the array was full. A loop as replay has it, and for the same reason:
-// std's read_to_end fills a Vec on the heap, which can run out where fixed memory can't.
+// How many bytes came before the input ended or the array was full. A loop as replay has it: std's read_exact does not
+// tell how many bytes came before the end, and read_to_end fills a Vec, on the heap, which needs memory beside the stack.
 fn read_list(from: &mut impl Read, list: &mut [u8]) -> Result<usize>
     ensures { IfOk result (λ n. n ≤ length list.new) }
 {
